@@ -2,11 +2,12 @@
 ghost use mathlib.Core.Path.{_≡_};
 ghost use lib.ListN.{getD, set};
 ghost use Rattle.bus.specs.Ports.{Left, goes, nextInput, logged, readAt, writeAt, flag};
-
 use word::Address;
 
 const INPUT: usize = 4092;
+
 const WAITING: usize = 4093;
+
 const LOG: usize = 4094;
 
 // A completed read: the word, and the input place afterwards.
@@ -31,11 +32,7 @@ pub struct Written {
 fn word_at(words: &[u16], place: usize) -> u16
     ensures { λ r. ⌜ r ≡ getD (now (words .entry)) place 0 ⌝ }
 {
-    if place < words.len() {
-        words[place]
-    } else {
-        0
-    }
+    if place < words.len() { words[place] } else { 0 }
 }
 
 fn put(words: &mut [u16], place: usize, word: u16)
@@ -49,11 +46,7 @@ fn put(words: &mut [u16], place: usize, word: u16)
 fn flag_of(holds: bool) -> u16
     ensures { λ r. ⌜ r ≡ flag holds ⌝ }
 {
-    if holds {
-        32768
-    } else {
-        0
-    }
+    if holds { 32768 } else { 0 }
 }
 
 fn next_input(input: &[u16], place: usize) -> Fetched
@@ -126,7 +119,13 @@ pub fn append(log: &mut [u16], count: usize, word: u16) -> Written
 }
 
 // A completed write of a word to an address.
-pub fn write(memory: &mut [u16], log: &mut [u16], count: usize, address: Address, word: u16) -> Written
+pub fn write(
+    memory: &mut [u16],
+    log: &mut [u16],
+    count: usize,
+    address: Address,
+    word: u16,
+) -> Written
     ensures { λ r. ⌜ writeAt (now (memory .entry)) (now (log .entry)) count (address .0) word ≡ record { memory = now (memory .exit); log = now (log .exit); count = r .count; full = r .full } ⌝ }
 {
     let goes = goes_to(address);
