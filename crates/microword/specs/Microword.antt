@@ -65,16 +65,17 @@ unfoldable pub normalForm : ℕ → ℕ
 normalForm w = wordOf (normalFields (fieldsOf w))
 
 -- 0 wherever the field is without use.
-abbrev clear : Bool → ℕ → Bool
+abbrev pub clear : Bool → ℕ → Bool
 clear unused value = not unused || eqb value 0
 
--- A word is normal when fields without use are 0.
-unfoldable pub isNormal : ℕ → Bool
-isNormal w =
-    let m : Fields = fieldsOf w in
-    ltb w 8388608
-    && clear (idle m || not (binary m)) (m .b)
+unfoldable pub unusedClear : Fields → Bool
+unusedClear m =
+    clear (idle m || not (binary m)) (m .b)
     && clear (eqb (m .hs) 0) (m .s)
     && clear (eqb (m .sq) 0) (m .end)
     && clear (idle m) (m .a)
     && clear (idle m) (m .f)
+
+-- A word is normal when fields without use are 0.
+unfoldable pub isNormal : ℕ → Bool
+isNormal w = ltb w 8388608 && unusedClear (fieldsOf w)

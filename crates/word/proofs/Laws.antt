@@ -1,10 +1,11 @@
 -- Laws of what few bits keep, of fields, of sums and of bytes, each once, for every place and width.
 -- They rest on the library's laws of 2 ^ k and of masks; nothing is assumed.
-use Prim.Native.Nat.{ℕ, _+_, _-_, _*_, _/_, _%_, _^_, _≤_, _<_}
+use Prim.Native.Nat.{ℕ, zero, suc, _+_, _-_, _*_, _/_, _%_, _^_, _≤_, _<_}
 use mathlib.Core.Path.{_≡_, refl, sym, _∙_, ap}
-use mathlib.Core.List.{List, [], _∷_, _++_}
-use native.Mathlib.Nat.{one-mul, mod-eq-of-lt, mod-lt, mod-mod, mod-add-mod, add-mod-right, add-mul-mod-self-right, mul-mod-left, div-one, add-zero, zero-add, add-comm, mul-assoc}
+use mathlib.Core.List.{List, [], _∷_}
+use native.Mathlib.Nat.{one-mul, mod-eq-of-lt, mod-lt, mod-mod, mod-add-mod, add-mod-right, add-mul-mod-self-right, mul-mod-left, div-one, add-zero, zero-add, add-comm, add-assoc, mul-assoc}
 use native.Mathlib.Omega.{arith}
+use lib.ListN.{length, getD, drop}
 use lib.Bits.{bitOr, or-shifted}
 use lib.Arith.{digits-lt}
 use lib.Pow.{pow-pos, pow-lt, pow-mono, pow-add, mod-pow-add, mod-mod-pow, shl-shr, shr-shr, shr-le, shl-lt, high, low, split}
@@ -75,12 +76,29 @@ joined-high (f ∷ fs) bits a small fits place width =
     (joined-high fs (bits + f .width) (placed a (f .width) (f .value)) (placed-below bits a (f .width) (f .value) small (omega arith)) (omega arith) (f .width + place) width
     ∙ placed-high bits a (f .width) (f .value) small (omega arith) place width)
 
+-- Fields placed below a number of `bits` bits make one of as many bits more.
+pub joined-below : (fs : List Field) (bits a : ℕ) → a < 2 ^ bits → bits + total fs ≤ 32 → joined a fs < 2 ^ (bits + total fs)
+unfolding joined total
+joined-below [] bits a small fits = rw add-zero small
+joined-below (f ∷ fs) bits a small fits =
+    rw (← add-assoc)
+    (joined-below fs (bits + f .width) (placed a (f .width) (f .value)) (placed-below bits a (f .width) (f .value) small (omega arith)) (omega arith))
+
+abbrev pub empty : Field
+empty = record { width = 0; value = 0 }
+
 -- Each field that was placed is found again at its place.
-pub joined-at : (fs : List Field) (bits a k v : ℕ) → a < 2 ^ bits → bits + (k + total fs) ≤ 32
-    → field (total fs) k (joined (placed a k v) fs) ≡ kept k v
-joined-at fs bits a k v small fits =
+pub joined-at : (fs : List Field) (i bits a : ℕ) → i < length fs → a < 2 ^ bits → bits + total fs ≤ 32
+    → field (total (drop (suc i) fs)) (getD fs i empty .width) (joined a fs) ≡ kept (getD fs i empty .width) (getD fs i empty .value)
+unfolding joined total
+joined-at [] i bits a h small fits = let z : ⊥ = omega arith in absurd z
+joined-at (f ∷ fs) zero bits a h small fits =
+    let k : ℕ = f .width in
+    let high : placed a k (f .value) < 2 ^ (bits + k) = placed-below bits a k (f .value) small (omega arith) in
     rw (← add-zero (total fs))
-    (joined-high fs (bits + k) (placed a k v) (placed-below bits a k v small (omega arith)) (omega arith) 0 k ∙ rw div-one (placed-low bits a k v small (omega arith)))
+    (joined-high fs (bits + k) (placed a k (f .value)) high (omega arith) 0 k ∙ rw div-one (placed-low bits a k (f .value) small (omega arith)))
+joined-at (f ∷ fs) (suc i) bits a h small fits =
+    joined-at fs i (bits + f .width) (placed a (f .width) (f .value)) (omega arith) (placed-below bits a (f .width) (f .value) small (omega arith)) (omega arith)
 
 -- The fields of a number at these widths, highest first, the last at bit 0.
 unfoldable pub widths : List ℕ → ℕ
