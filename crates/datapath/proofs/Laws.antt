@@ -1,11 +1,12 @@
 -- Laws of the datapath: no second answer; what a transfer does to memory and log is the write that it completes, and no more.
 use Prim.Native.Nat.{ℕ}
 use mathlib.Core.Path.{_≡_, refl, sym, _∙_, ap}
-use mathlib.Core.Bool.{Bool, true, false, cond}
+use mathlib.Core.Bool.{Bool, true, false, cond, true≢false}
 use mathlib.Core.List.{List}
 use lib.Dec.{eqb}
 use Rattle.bus.specs.Ports.{Left, writeAt}
 use Rattle.bus.specs.Log.{after}
+use Rattle.bus.proofs.Laws.{leaves}
 use Rattle.datapath.specs.Result.{jumps}
 use Rattle.datapath.specs.Transfer.{Found, Transfer, moved, waits, completedRead, completedWrite, reads, writes, transferred, completes, sends, foundIn, leftIn}
 use Rattle.datapath.specs.declared.Half.{Half}
@@ -53,3 +54,15 @@ jumps-by sq n z = by (eqb sq 0) (eqb sq 1) (eqb sq 2)
     by true one two = refl
     by false true two = refl
     by false false two = refl
+
+-- A refused transfer leaves memory, log and count as it found them.
+pub transfer-refused : (rd wr : Bool) (input : List ℕ) (half : Half) (at : Found) → transferred rd wr input half at .full ≡ true
+    → leftIn (transferred rd wr input half at) ≡ record { memory = at .memory; log = at .log; count = at .count; full = true }
+unfolding transferred waits reads writes completedRead completedWrite
+transfer-refused true wr input Nothing at f = absurd (true≢false (sym f))
+transfer-refused true wr input Read at f = absurd (true≢false (sym f))
+transfer-refused true wr input Write at f = absurd (true≢false (sym f))
+transfer-refused false true input Nothing at f = absurd (true≢false (sym f))
+transfer-refused false true input Read at f = absurd (true≢false (sym f))
+transfer-refused false true input Write at f = leaves (at .memory) (at .log) (at .count) (at .rem) (at .rdm) .refused f
+transfer-refused false false input half at f = absurd (true≢false (sym f))

@@ -4,14 +4,16 @@ use Prim.Native.Nat.{ℕ, suc, _+_, _^_, _/_, _≤_, _<_}
 use mathlib.Core.Path.{_≡_, refl, sym, _∙_, ap}
 use mathlib.Core.Bool.{Bool, true, false, cond, not, _&&_, _||_}
 use mathlib.Core.List.{List, [], _∷_, _++_}
-use native.Mathlib.Nat.{div-eq-of-lt}
+use native.Mathlib.Nat.{div-eq-of-lt, add-zero}
+use native.Mathlib.Numerals.{add-one}
 use native.Mathlib.Omega.{arith}
-use lib.ListN.{getD, drop}
+use lib.ListN.{length, getD, drop, drop-of-length-le}
+use lib.Seq.{drop-cons}
 use lib.Dec.{leb, ltb, eqb}
 use borrow.Author.Tests.{lt-ltb, ltb-true, eqb-true}
 use Rattle.word.specs.Number.{Field, field, kept, joined, total}
 use Rattle.word.proofs.Laws.{kept-below, kept-whole, joined-below, joined-at, empty, joined-taken, widths, taken}
-use Rattle.microword.specs.Microword.{fieldsOf, wide, layout, wordOf, badWord, idle, binary, normalFields, normalForm, clear, unusedClear, isNormal}
+use Rattle.microword.specs.Microword.{fieldsOf, wide, layout, wordOf, badWord, firstBad, idle, binary, normalFields, normalForm, clear, unusedClear, isNormal}
 use Rattle.microword.specs.declared.Fields.{Fields}
 
 -- Each field is below its bound.
@@ -174,3 +176,16 @@ same-normal w e = rw e at (form-is-normal w)
 -- The normal form's normal form is itself.
 pub normal-again : (w : ℕ) → normalForm (normalForm w) ≡ normalForm w
 normal-again w = normal-same (normalForm w) (form-is-normal w)
+
+-- The search for the first bad line, from line k on: this one is bad, this one is good, or there is none left.
+pub bad-here : (l : List ℕ) (k : ℕ) → k < length l → badWord (getD l k 0) ≡ true → k + firstBad (drop k l) ≡ k
+unfolding firstBad
+bad-here l k h e = rw (drop-cons l k 0, e) (add-zero k)
+
+pub good-here : (l : List ℕ) (k : ℕ) → k < length l → badWord (getD l k 0) ≡ false → k + firstBad (drop k l) ≡ k + 1 + firstBad (drop (k + 1) l)
+unfolding firstBad
+good-here l k h e = rw (add-one, drop-cons l k 0, e) (omega arith)
+
+pub none-bad : (l : List ℕ) (k : ℕ) → length l ≤ k → k + firstBad (drop k l) ≡ k
+unfolding firstBad
+none-bad l k h = rw (drop-of-length-le l) (add-zero k)

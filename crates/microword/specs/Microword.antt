@@ -1,5 +1,5 @@
 -- The control word of 23 bits (01, Registers and microwords; Micro text and images): its fields, bad words, the normal form.
-use Prim.Native.Nat.{ℕ}
+use Prim.Native.Nat.{ℕ, suc}
 use mathlib.Core.Bool.{Bool, true, false, cond, not, _&&_, _||_}
 use mathlib.Core.List.{List, [], _∷_}
 use lib.Dec.{leb, ltb, eqb}
@@ -36,6 +36,11 @@ wordOf m = joined 0 (layout m)
 -- Answer 4: a control word of 8,388,608 or more, or with RD and WR both 1.
 unfoldable pub badWord : ℕ → Bool
 badWord w = leb 8388608 w || (eqb (fieldsOf w .rd) 1 && eqb (fieldsOf w .wr) 1)
+
+-- How many lines stand before the first bad one, all of them where none is bad.
+unfoldable pub firstBad : List ℕ → ℕ
+firstBad [] = 0
+firstBad (w ∷ ws) = cond (badWord w) 0 (suc (firstBad ws))
 
 -- HS is 0 and SQ is 0 or 3: nothing asks for the result.
 unfoldable pub idle : Fields → Bool

@@ -1,0 +1,84 @@
+-- Laws of a cycle and of a run: what a refused cycle leaves, how a run goes on, stops and ends, and no second answer.
+use Prim.Native.Nat.{ℕ, zero, suc, _+_, _-_, _<_, _≤_}
+use mathlib.Core.Path.{_≡_, refl, sym, _∙_, ap}
+use mathlib.Core.Bool.{Bool, true, false, cond, true≢false}
+use mathlib.Core.List.{List}
+use mathlib.Core.Logic.{_⊎_, inl, inr, ⊎-elim}
+use native.Mathlib.Nat.{add-zero, zero-add, add-assoc}
+use native.Mathlib.Omega.{arith}
+use lib.ListN.{length, getD, set}
+use lib.Seq.{set-set, set-getD}
+use lib.Dec.{ltb, eqb}
+use Rattle.datapath.specs.declared.Moved.{Moved}
+use Rattle.datapath.specs.declared.Half.{Half}
+use Rattle.datapath.specs.Result.{keeps}
+use Rattle.datapath.specs.Transfer.{Found, Transfer, moved, transferred, leftIn}
+use Rattle.datapath.proofs.Laws.{transfer-refused}
+use Rattle.bus.specs.Ports.{Left}
+use Rattle.microword.specs.declared.Fields.{Fields}
+use Rattle.microword.specs.Microword.{fieldsOf}
+use Rattle.word.specs.declared.Line.{Line}
+use Rattle.engine.specs.Cycle.{State, Cycled, controlWord, result, stored, transfer, nextLine, arrived, driven, settled, cycle}
+use Rattle.engine.specs.Run.{Ended, Said, says, saying, plus, onwards, cycles, stateOf, endedBy}
+use Rattle.engine.specs.Core.{machineOf, joined, stepped}
+use Rattle.engine.specs.declared.Core.{Core}
+use Rattle.engine.specs.declared.Ran.{Ran}
+
+-- Putting back what stood in S undoes the store.
+restored : (m : Fields) (value : ℕ) (registers : List ℕ) (hs : Bool) → eqb (m .hs) 1 ≡ hs
+    → set (stored m value registers) (m .s) (getD registers (m .s) 0) ≡ registers
+unfolding stored
+restored m value registers true e = rw (e, set-set) (set-getD registers (m .s) 0)
+restored m value registers false e = rw e (set-getD registers (m .s) 0)
+
+-- What the code did up to the transfer, and what the transfer left.
+pub record Transferred (store input : List ℕ) (core : Core) (registers memory log : List ℕ) (m : Fields) (value : ℕ)
+    (registers₁ : List ℕ) (r : Moved) (memory₂ log₂ : List ℕ) : Type 0 where
+  pub fields : m ≡ fieldsOf (controlWord store (core .line .0))
+  pub computed : value ≡ result m registers
+  pub kept : registers₁ ≡ stored m value registers
+  pub moves : transferred (eqb (m .rd) 1) (eqb (m .wr) 1) input (core .half) (record { rem = getD registers₁ 6 0; rdm = getD registers₁ 7 0; place = core .place; count = core .count; memory = memory; log = log }) ≡ moved r memory₂ log₂
+
+module _ {store input : List ℕ} {core : Core} {registers memory log : List ℕ} {m : Fields} {value : ℕ} {registers₁ : List ℕ} {r : Moved} {memory₂ log₂ : List ℕ} (t : Transferred store input core registers memory log m value registers₁ r memory₂ log₂) where
+  is-driven : driven (fieldsOf (controlWord store (core .line .0))) input (joined core registers memory log)
+      ≡ arrived (nextLine m value (core .line .0)) registers₁ (moved r memory₂ log₂)
+  unfolding driven transfer
+  is-driven = rw (← t .fields, ← t .computed, ← t .kept, t .moves)
+
+  pub carried : {line : Line} → r .full ≡ false → line .0 ≡ nextLine m value (core .line .0)
+      → cycle store input (joined core registers memory log)
+      ≡ stepped (record { core = record { line = line; half = r .half; place = r .place; count = r .count }; full = false }) (set registers₁ 7 (r .rdm)) memory₂ log₂
+  unfolding cycle settled
+  carried f l = rw (is-driven, f, l)
+
+  pub refused : r .full ≡ true → cycle store input (joined core registers memory log)
+      ≡ stepped (record { core = core; full = true }) (set registers₁ (m .s) (getD registers (m .s) 0)) memory₂ log₂
+  unfolding cycle settled
+  refused f =
+      let e : leftIn (moved r memory₂ log₂) ≡ record { memory = memory; log = log; count = core .count; full = true } =
+      rw (t .moves) at (transfer-refused (eqb (m .rd) 1) (eqb (m .wr) 1) input (core .half) _ (ap (λ (x : Transfer). x .full) (t .moves) ∙ f)) in
+      rw (is-driven, f, t .kept, restored m value registers _ refl, ap (λ (x : Left). x .memory) e, ap (λ (x : Left). x .log) e)
+
+-- Nothing more.
+pub plus-none : (e : Ended) → plus 0 e ≡ e
+unfolding plus
+plus-none e = rw zero-add
+
+fewer : {n done : ℕ} → done < n → n - done ≡ suc (n - (done + 1))
+fewer h = omega arith
+
+-- A run of n cycles of which `done` are done, at a cycle that is carried out, at one that is refused, and at its end.
+module _ (store input : List ℕ) (s : State) {n done : ℕ} where
+  pub goes-on : {a : Cycled} → done < n → cycle store input s ≡ a → a .full ≡ false
+      → plus done (cycles store input (n - done) s) ≡ plus (done + 1) (cycles store input (n - (done + 1)) (a .next))
+  unfolding cycles onwards plus
+  goes-on h e f = rw (fewer h, e, f, add-assoc)
+
+  pub stops : {a : Cycled} → done < n → cycle store input s ≡ a → a .full ≡ true
+      → plus done (cycles store input (n - done) s) ≡ record { state = a .next; done = done; said = says 5 }
+  unfolding cycles onwards plus
+  stops h e f = rw (fewer h, e, f, add-zero)
+
+  pub ends : n ≤ done → plus done (cycles store input (n - done) s) ≡ record { state = s; done = done; said = says 0 }
+  unfolding cycles plus
+  ends h = let z : n - done ≡ 0 = omega arith in rw (z, add-zero)

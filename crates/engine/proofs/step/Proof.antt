@@ -1,0 +1,125 @@
+-- `step`: what the code did up to the transfer is what the control word drives; a refused cycle puts back what stood in S.
+use Prim.Native.Nat.{ℕ}
+use mathlib.Core.Path.{_≡_, _∙_, ap}
+use borrow.Author.Needs.{needs}
+use Rattle.microword.proofs.Laws.{Within, fields-within}
+use Rattle.engine.proofs.Laws.{carried, refused}
+use Rattle.engine.specs.Cycle.{result}
+use Rattle.microword.specs.Microword.{fieldsOf}
+use Rattle.microword.specs.declared.Fields.{Fields}
+use Rattle.engine.proofs.step.Statement.{statement}
+use Rattle.engine.proofs.step.Tie as tie
+
+within : {m : Fields} (w : ℕ) → m ≡ fieldsOf w → Within m
+within w e = rw e (fields-within w)
+
+control-word-requires : tie.Need-control-word-requires
+control-word-requires c κs = search needs
+
+fields-of-requires : tie.Need-fields-of-requires
+fields-of-requires c κs = search needs
+
+cast-a : tie.Need-cast-a
+cast-a c = search needs
+
+cast-b : tie.Need-cast-b
+cast-b c = search needs
+
+cast-s : tie.Need-cast-s
+cast-s c = search needs
+
+mul-compute : tie.Need-mul-compute
+mul-compute c = search needs
+
+element-copy-out-compute : tie.Need-element-copy-out-compute
+element-copy-out-compute c = within _ (c .before .before .before .fields-of .ensures) .a
+
+mul-compute-2 : tie.Need-mul-compute-2
+mul-compute-2 c = search needs
+
+element-copy-out-compute-2 : tie.Need-element-copy-out-compute-2
+element-copy-out-compute-2 c = within _ (c .before .before .before .before .fields-of .ensures) .b
+
+compute-requires : tie.Need-compute-requires
+compute-requires c κs = search needs
+
+mul-old : tie.Need-mul-old
+mul-old c = search needs
+
+element-copy-out-old : tie.Need-element-copy-out-old
+element-copy-out-old c = within _ (c .before .before .before .before .before .before .fields-of .ensures) .s
+
+store-value-requires : tie.Need-store-value-requires
+store-value-requires c κs = within _ (c .before .before .before .before .before .before .before .before .fields-of .ensures) .s
+
+element-copy-out-t21 : tie.Need-element-copy-out-t21
+element-copy-out-t21 c = search needs
+
+element-copy-out-transfer : tie.Need-element-copy-out-transfer
+element-copy-out-transfer c = search needs
+
+transfer-requires : tie.Need-transfer-requires
+transfer-requires c κs = search needs
+
+mul-registers : tie.Need-mul-registers
+mul-registers c = search needs
+
+element-write-registers : tie.Need-element-write-registers
+element-write-registers c = within _ (c .before .before .before .before .before .before .before .before .before .before .before .before .before .before .before .before .before .before .before .before .before .fields-of .ensures) .s
+
+same-length : tie.Need-same-length
+same-length c = search needs
+
+same-length-2 : tie.Need-same-length-2
+same-length-2 c = search needs
+
+returns : tie.Need-returns
+unfolding result
+returns c = refused (record { fields = c .before .before .before .before .before .before .before .before .before .before .before .before .before .before .before .before .before .before .before .before .before .fields-of .ensures ∙ ap fieldsOf (c .before .before .before .before .before .before .before .before .before .before .before .before .before .before .before .before .before .before .before .before .before .before .control-word .ensures); computed = c .before .before .before .before .before .before .before .before .before .before .before .before .before .before .before .compute .ensures; kept = c .before .before .before .before .before .before .before .before .before .before .before .before .store-value .ensures; moves = c .before .before .before .before .before .transfer .ensures }) (c .if1 .taken)
+
+element-write-registers-2 : tie.Need-element-write-registers-2
+element-write-registers-2 c = search needs
+
+next-line-requires : tie.Need-next-line-requires
+next-line-requires c κs = within _ (c .before .before .before .before .before .before .before .before .before .before .before .before .before .before .before .before .before .before .before .before .before .fields-of .ensures) .end
+
+same-length-3 : tie.Need-same-length-3
+same-length-3 c = search needs
+
+same-length-4 : tie.Need-same-length-4
+same-length-4 c = search needs
+
+returns-2 : tie.Need-returns-2
+unfolding result
+returns-2 c = carried (record { fields = c .before .before .before .before .before .before .before .before .before .before .before .before .before .before .before .before .before .before .before .before .before .before .fields-of .ensures ∙ ap fieldsOf (c .before .before .before .before .before .before .before .before .before .before .before .before .before .before .before .before .before .before .before .before .before .before .before .control-word .ensures); computed = c .before .before .before .before .before .before .before .before .before .before .before .before .before .before .before .before .compute .ensures; kept = c .before .before .before .before .before .before .before .before .before .before .before .before .before .store-value .ensures; moves = c .before .before .before .before .before .before .transfer .ensures }) (c .before .if1 .left) (c .next-line .ensures)
+
+pub step-spec : {M : Type 1} → statement M
+step-spec =
+    tie.close
+    (tie.spec
+    control-word-requires
+    fields-of-requires
+    cast-a
+    cast-b
+    cast-s
+    mul-compute
+    element-copy-out-compute
+    mul-compute-2
+    element-copy-out-compute-2
+    compute-requires
+    mul-old
+    element-copy-out-old
+    store-value-requires
+    element-copy-out-t21
+    element-copy-out-transfer
+    transfer-requires
+    mul-registers
+    element-write-registers
+    same-length
+    same-length-2
+    returns
+    element-write-registers-2
+    next-line-requires
+    same-length-3
+    same-length-4
+    returns-2)

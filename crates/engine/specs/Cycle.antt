@@ -1,0 +1,95 @@
+-- One cycle of the engine, for any control store (01, One cycle, in order).
+use Prim.Native.Nat.{ℕ}
+use mathlib.Core.Bool.{Bool, true, false, cond}
+use mathlib.Core.List.{List}
+use lib.ListN.{length, getD, set}
+use lib.Dec.{eqb}
+use Rattle.word.specs.Number.{sum}
+use Rattle.datapath.specs.declared.Half.{Half}
+use Rattle.datapath.specs.Result.{alu, negative, isZero, jumps, keeps}
+use Rattle.datapath.specs.Transfer.{Found, Transfer, transferred}
+use Rattle.microword.specs.declared.Fields.{Fields}
+use Rattle.microword.specs.Microword.{fieldsOf}
+
+-- The machine, with what is lent to it: the control line, the eight registers, what is half done, the input place, the log count,
+-- memory and log.
+pub record State : Type 0 where
+  pub line : ℕ
+  pub registers : List ℕ
+  pub half : Half
+  pub place : ℕ
+  pub count : ℕ
+  pub memory : List ℕ
+  pub log : List ℕ
+
+-- Registers, by number: 0 CP, 1 AC, 2 PP, 3 RI, 4 RT, 5 MASC, 6 REM, 7 RDM.
+abbrev pub register : ℕ → State → ℕ
+register number s = getD (s .registers) number 0
+
+-- The control word at a line.
+abbrev pub controlWord : List ℕ → ℕ → ℕ
+controlWord store line = getD store line 0
+
+-- Read A and B from the registers as they stood; compute.
+unfoldable pub result : Fields → List ℕ → ℕ
+result m registers = alu (m .f) (getD registers (m .a) 0) (getD registers (m .b) 0)
+
+-- If HS, store to S.
+unfoldable pub stored : Fields → ℕ → List ℕ → List ℕ
+stored m value registers = cond (eqb (m .hs) 1) (set registers (m .s) (keeps (m .s) value)) registers
+
+-- Memory transfer: the address is REM and the written word is RDM, both as they stand after this cycle's store.
+unfoldable pub transfer : Fields → List ℕ → List ℕ → State → Transfer
+transfer m input registers s =
+    transferred (eqb (m .rd) 1) (eqb (m .wr) 1) input (s .half)
+    (record {
+      rem = getD registers 6 0;
+      rdm = getD registers 7 0;
+      place = s .place;
+      count = s .count;
+      memory = s .memory;
+      log = s .log;
+    })
+
+-- New CMP, by N and Z of this same cycle; after 63 comes 0.
+unfoldable pub target : Fields → Bool → ℕ → ℕ
+target m jump line = cond jump (m .end) (sum 6 line 1)
+
+unfoldable pub nextLine : Fields → ℕ → ℕ → ℕ
+nextLine m value line = target m (jumps (m .sq) (negative value) (isZero value)) line
+
+-- The state that follows, and whether its write met a full log.
+pub record Cycled : Type 0 where
+  pub next : State
+  pub full : Bool
+
+-- A transfer's RDM goes over anything the cycle stored there.
+abbrev pub arrived : ℕ → List ℕ → Transfer → Cycled
+arrived line registers t =
+    record {
+      next =
+          record {
+            line = line;
+            registers = set registers 7 (t .rdm);
+            half = t .half;
+            place = t .place;
+            count = t .count;
+            memory = t .memory;
+            log = t .log;
+          };
+      full = t .full;
+    }
+
+-- What the fields of a control word drive.
+unfoldable pub driven : Fields → List ℕ → State → Cycled
+driven m input s =
+    let value : ℕ = result m (s .registers) in
+    let registers : List ℕ = stored m value (s .registers) in
+    arrived (nextLine m value (s .line)) registers (transfer m input registers s)
+
+-- A refused cycle leaves the state before it.
+unfoldable pub settled : State → Cycled → Cycled
+settled s c = cond (c .full) (record { next = s; full = true }) c
+
+unfoldable pub cycle : List ℕ → List ℕ → State → Cycled
+cycle store input s = settled s (driven (fieldsOf (controlWord store (s .line))) input s)

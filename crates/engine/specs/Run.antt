@@ -1,0 +1,83 @@
+-- A run of cycles: the refusals before it, the cycles in turn, and what it answers (01, Instructions; Answer numbers).
+use Prim.Native.Nat.{ℕ, zero, suc, _+_}
+use mathlib.Core.Bool.{Bool, true, false, cond, not, _||_}
+use mathlib.Core.List.{List}
+use lib.ListN.{length}
+use lib.Dec.{ltb, eqb}
+use Rattle.microword.specs.Microword.{firstBad}
+use Rattle.engine.specs.Cycle.{State, Cycled, register, cycle}
+use Rattle.engine.specs.declared.Answer.{Answer}
+use Rattle.engine.specs.declared.Answer.the-variants.{Done, Sizes, Places, Ranges, BadWord, LogFull}
+use Rattle.engine.specs.declared.Machine.{Machine}
+use Rattle.engine.specs.declared.Ran.{Ran}
+
+-- An answer number, and for 4 the first bad line (else 0).
+pub record Said : Type 0 where
+  pub number : ℕ
+  pub line : ℕ
+
+abbrev pub says : ℕ → Said
+says number = record { number = number; line = 0 }
+
+-- 01's number for each answer of the code.
+unfoldable pub saying : Answer → Said
+saying Done = says 0
+saying Sizes = says 1
+saying Places = says 2
+saying Ranges = says 3
+saying (BadWord k) = record { number = 4; line = k .0 }
+saying LogFull = says 5
+
+-- Order for a run: 1, 2, 3, 4, before any cycle; 0 lets it run.
+unfoldable pub refusal : List ℕ → List ℕ → State → Said
+refusal store input s =
+    cond (not (eqb (length (s .memory)) 4096) || not (eqb (length store) 64)) (says 1)
+    (cond (ltb (length input) (s .place) || ltb (length (s .log)) (s .count)) (says 2)
+    (cond (ltb 4095 (register 0 s) || ltb 4095 (register 2 s) || ltb 4095 (register 6 s) || ltb 63 (s .line)) (says 3)
+    (cond (ltb (firstBad store) 64) (record { number = 4; line = firstBad store })
+    (says 0))))
+
+-- What a run comes to: the state, how many cycles it carried out, and its answer.
+pub record Ended : Type 0 where
+  pub state : State
+  pub done : ℕ
+  pub said : Said
+
+-- After k cycles more.
+unfoldable pub plus : ℕ → Ended → Ended
+plus k e = record { state = e .state; done = k + e .done; said = e .said }
+
+-- After a cycle: the refusal of a full log, or what the rest comes to.
+unfoldable pub onwards : Bool → State → Ended → Ended
+onwards true s rest = record { state = s; done = 0; said = says 5 }
+onwards false s rest = plus 1 rest
+
+-- A run is that many single cycles in turn.
+unfoldable pub cycles : List ℕ → List ℕ → ℕ → State → Ended
+cycles store input zero s = record { state = s; done = 0; said = says 0 }
+cycles store input (suc n) s =
+    onwards (cycle store input s .full) (cycle store input s .next) (cycles store input n (cycle store input s .next))
+
+-- Counts with refusals 1 to 4 are 0, and all is left as found.
+unfoldable pub begun : Said → List ℕ → List ℕ → ℕ → State → Ended
+begun refused store input n s = cond (eqb (refused .number) 0) (cycles store input n s) (record { state = s; done = 0; said = refused })
+
+unfoldable pub runs : List ℕ → List ℕ → ℕ → State → Ended
+runs store input n s = begun (refusal store input s) store input n s
+
+-- The machine record and the lent lists, as one state.
+abbrev pub stateOf : Machine → List ℕ → List ℕ → State
+stateOf m memory log =
+    record {
+      line = m .line .0;
+      registers = m .registers;
+      half = m .half;
+      place = m .place;
+      count = m .count;
+      memory = memory;
+      log = log;
+    }
+
+-- What the code's run hands back, with the lent lists.
+abbrev pub endedBy : Ran → List ℕ → List ℕ → Ended
+endedBy r memory log = record { state = stateOf (r .machine) memory log; done = r .done; said = saying (r .answer) }

@@ -1,0 +1,226 @@
+// The cycle engine for any control store: one cycle, a run, and the panel's press.
+ghost use mathlib.Core.Path.{_≡_};
+ghost use mathlib.Core.Bool.{true, false};
+ghost use lib.ListN.{length, getD};
+ghost use Rattle.microword.specs.Microword.{fieldsOf};
+ghost use Rattle.engine.specs.Cycle.{controlWord, result, stored, nextLine, cycle};
+ghost use Rattle.engine.specs.Run.{refusal, saying, cycles, runs, stateOf, endedBy};
+ghost use Rattle.engine.specs.Core.{joined, stepped, machineOf};
+ghost use Prim.Native.Nat.{_<_};
+use datapath::Half;
+use microword::Fields;
+use word::Address;
+use word::Line;
+
+const REM: usize = 6;
+
+const RDM: usize = 7;
+
+// The machine: its control line, its registers by number, what is half done, the input place and the log count.
+pub struct Machine {
+    pub line: Line,
+    pub registers: [u16; 8],
+    pub half: Half,
+    pub place: usize,
+    pub count: usize,
+}
+
+// What a run comes to: document 01's numbers 0 to 5.
+pub enum Answer {
+    Done,
+    Sizes,
+    Places,
+    Ranges,
+    BadWord(Line),
+    LogFull,
+}
+
+pub struct Ran {
+    pub machine: Machine,
+    pub done: u32,
+    pub answer: Answer,
+}
+
+// What a cycle changes beside registers, memory and log.
+struct Core {
+    line: Line,
+    half: Half,
+    place: usize,
+    count: usize,
+}
+
+struct Stepped {
+    core: Core,
+    full: bool,
+}
+
+pub fn control_word(store: &[u32], line: Line) -> u32
+    ensures { λ r. ⌜ r ≡ controlWord (now (store .entry)) (line .0) ⌝ }
+{
+    let k = line.0 as usize;
+    if k < store.len() { store[k] } else { 0 }
+}
+
+fn next_line(m: Fields, value: u16, line: Line) -> Line
+    requires { ⌜ m .end < 64 ⌝ }
+    ensures { λ r. ⌜ r .0 ≡ nextLine m value (line .0) ⌝ }
+{
+    if datapath::does_jump(m.sq, value) {
+        return Line(m.end as u8);
+    }
+    line.next()
+}
+
+// If HS, the value is stored to S.
+fn store_value(m: Fields, value: u16, registers: &mut [u16; 8])
+    requires { ⌜ m .s < 8 ⌝ }
+    ensures { λ _. ⌜ now (registers .exit) ≡ stored m value (now (registers .entry)) ⌝ }
+{
+    if m.hs == 1 {
+        let s = m.s as usize;
+        registers[s] = datapath::keep_in(m.s, value);
+    }
+}
+
+// One cycle, in place; a refused one leaves everything as it was.
+fn step(
+    store: &[u32],
+    memory: &mut [u16],
+    input: &[u16],
+    log: &mut [u16],
+    registers: &mut [u16; 8],
+    core: Core,
+) -> Stepped
+    ensures { λ r. ⌜ cycle (now (store .entry)) (now (input .entry)) (joined core (now (registers .entry)) (now (memory .entry)) (now (log .entry))) ≡ stepped r (now (registers .exit)) (now (memory .exit)) (now (log .exit)) ⌝ }
+{
+    let m = microword::fields_of(control_word(store, core.line));
+    let a = m.a as usize;
+    let b = m.b as usize;
+    let s = m.s as usize;
+    let value = datapath::compute(m.f, registers[a], registers[b]);
+    let old = registers[s];
+    store_value(m, value, registers);
+    let half = core.half;
+    let moved = datapath::transfer(
+        m.rd == 1,
+        m.wr == 1,
+        half,
+        Address(registers[REM]),
+        registers[RDM],
+        memory,
+        input,
+        log,
+        core.place,
+        core.count,
+    );
+    if moved.full {
+        registers[s] = old;
+        return Stepped { core, full: true };
+    }
+    registers[RDM] = moved.rdm;
+    let line = next_line(m, value, core.line);
+    let half = moved.half;
+    Stepped {
+        core: Core {
+            line,
+            half,
+            place: moved.place,
+            count: moved.count,
+        },
+        full: false,
+    }
+}
+
+// Refusals 1 to 4, in order, or nothing to refuse.
+fn check(store: &[u32], memory: &[u16], input: &[u16], log: &[u16], machine: Machine) -> Answer
+    ensures { λ r. ⌜ saying r ≡ refusal (now (store .entry)) (now (input .entry)) (stateOf machine (now (memory .entry)) (now (log .entry))) ⌝ }
+{
+    if (memory.len() != 4096) | (store.len() != 64) {
+        return Answer::Sizes;
+    }
+    if (input.len() < machine.place) | (log.len() < machine.count) {
+        return Answer::Places;
+    }
+    let registers = machine.registers;
+    let line = machine.line;
+    if (4095 < registers[0]) | (4095 < registers[2]) | (4095 < registers[REM]) | (63 < line.0) {
+        return Answer::Ranges;
+    }
+    let bad = microword::first_bad(store);
+    if bad < 64 {
+        return Answer::BadWord(Line(bad as u8));
+    }
+    Answer::Done
+}
+
+fn report(core: Core, registers: [u16; 8], done: u32, answer: Answer) -> Ran
+    ensures { λ r. ⌜ r ≡ record { machine = machineOf core registers; done = done; answer = answer } ⌝ }
+{
+    let line = core.line;
+    let half = core.half;
+    Ran {
+        machine: Machine {
+            line,
+            registers,
+            half,
+            place: core.place,
+            count: core.count,
+        },
+        done,
+        answer,
+    }
+}
+
+// n cycles in turn.
+fn repeat(
+    store: &[u32],
+    memory: &mut [u16],
+    input: &[u16],
+    log: &mut [u16],
+    machine: Machine,
+    n: u32,
+) -> Ran
+    ensures { λ r. ⌜ cycles (now (store .entry)) (now (input .entry)) n (stateOf machine (now (memory .entry)) (now (log .entry))) ≡ endedBy r (now (memory .exit)) (now (log .exit)) ⌝ }
+{
+    let mut registers = machine.registers;
+    let line = machine.line;
+    let half = machine.half;
+    let mut core = Core {
+        line,
+        half,
+        place: machine.place,
+        count: machine.count,
+    };
+    let mut done: u32 = 0;
+    while done < n {
+        let t = step(store, memory, input, log, &mut registers, core);
+        core = t.core;
+        if t.full {
+            return report(core, registers, done, Answer::LogFull);
+        }
+        done += 1;
+    }
+    report(core, registers, done, Answer::Done)
+}
+
+// A run of n cycles: refusals 1 to 4 before any cycle, then the cycles in turn.
+pub fn run(
+    store: &[u32],
+    memory: &mut [u16],
+    input: &[u16],
+    log: &mut [u16],
+    machine: Machine,
+    n: u32,
+) -> Ran
+    ensures { λ r. ⌜ runs (now (store .entry)) (now (input .entry)) n (stateOf machine (now (memory .entry)) (now (log .entry))) ≡ endedBy r (now (memory .exit)) (now (log .exit)) ⌝ }
+{
+    let answer = check(store, memory, input, log, machine);
+    match answer {
+        Answer::Done => repeat(store, memory, input, log, machine, n),
+        _ => Ran {
+            machine,
+            done: 0,
+            answer,
+        },
+    }
+}
