@@ -55,6 +55,10 @@ then {first} {second} {a} {b} {c} p q =
       left = q .left ∙ rw (p .left, length-append) (omega arith);
     }
 
+-- An address below the ports is not 4094.
+apart : (address : ℕ) → ltb address 4092 ≡ true → eqb address 4094 ≡ false
+apart address e = ne-eqb address 4094 (λ q. omega (arith, ltb-true address 4092 e))
+
 module _ (memory log : List ℕ) (count : ℕ) (full : Bool) (h : count ≤ length log) where
   abbrev at : Left
   at = record { memory = memory; log = log; count = count; full = full }
@@ -95,7 +99,7 @@ module _ (memory log : List ℕ) (count : ℕ) (full : Bool) (h : count ≤ leng
 
   pub takes : (address word : ℕ) → Took (cond (eqb address 4094) (word ∷ []) []) at (writeAt memory log count address word)
   unfolding writeAt goes
-  takes address word = by-address address word (ltb address 4092) (eqb address 4094) (λ e. ne-eqb address 4094 (λ q. omega (arith, ltb-true address 4092 e)))
+  takes address word = by-address address word (ltb address 4092) (eqb address 4094) (apart address)
 
 -- No word is lost: after any completed writes the log is its former words followed, in order, by every word sent to 4094 for which
 -- there was room.
@@ -148,3 +152,45 @@ unread memory memory′ input place room address same = below (ltb address 4092)
         → cond low (record { word = getD memory address 0; place = place }) port ≡ cond low (record { word = getD memory′ address 0; place = place }) port
     below true e port = rw (same address (ltb-true address 4092 e))
     below false e port = refl
+
+-- A write that is not refused has room for its word.
+pub has-room : (memory log : List ℕ) (count address word : ℕ) → writeAt memory log count address word .full ≡ false
+    → length (cond (eqb address 4094) (word ∷ []) []) ≤ length log - count
+unfolding writeAt goes sent logged
+has-room memory log count address word f = by (ltb address 4092) (eqb address 4094) (ltb count (length log)) (apart address) refl f
+  where
+    by : (low port fits : Bool) → (low ≡ true → port ≡ false) → ltb count (length log) ≡ fits
+        → sent (cond low Memory (cond port Log Nowhere)) memory log count address word .full ≡ false → length (cond port (word ∷ []) []) ≤ length log - count
+    by low false fits d g f = omega arith
+    by true true fits d g f = absurd (true≢false (d refl))
+    by false true true d g f = omega (arith, ltb-true count (length log) g)
+    by false true false d g f = absurd (true≢false (rw g at f))
+
+-- Writes in turn, first some and then others.
+pub after-append : (ss ts : List Sent) (at : Left) → after (ss ++ ts) at ≡ after ts (after ss at)
+unfolding after
+after-append [] ts at = refl
+after-append (s ∷ ss) ts at = after-append ss ts (writeAt (at .memory) (at .log) (at .count) (s .address) (s .word))
+
+-- Writes in turn never change the words under the ports, nor the lengths.
+pub after-ports : (ss : List Sent) (at : Left) (place : ℕ) → 4092 ≤ place → getD (after ss at .memory) place 0 ≡ getD (at .memory) place 0
+unfolding after
+after-ports [] at place h = refl
+after-ports (s ∷ ss) at place h =
+    after-ports ss (writeAt (at .memory) (at .log) (at .count) (s .address) (s .word)) place h
+    ∙ leaves (at .memory) (at .log) (at .count) (s .address) (s .word) .ports place h
+
+pub after-words : (ss : List Sent) (at : Left) → length (after ss at .memory) ≡ length (at .memory)
+unfolding after
+after-words [] at = refl
+after-words (s ∷ ss) at =
+    after-words ss (writeAt (at .memory) (at .log) (at .count) (s .address) (s .word)) ∙ leaves (at .memory) (at .log) (at .count) (s .address) (s .word) .words
+
+pub to-log-append : (ss ts : List Sent) → toLog (ss ++ ts) ≡ toLog ss ++ toLog ts
+unfolding toLog
+to-log-append [] ts = refl
+to-log-append (s ∷ ss) ts = rw (to-log-append ss ts) (by (eqb (s .address) 4094))
+  where
+    by : (port : Bool) → cond port (s .word ∷ (toLog ss ++ toLog ts)) (toLog ss ++ toLog ts) ≡ cond port (s .word ∷ toLog ss) (toLog ss) ++ toLog ts
+    by true = refl
+    by false = refl

@@ -1,12 +1,14 @@
 -- Laws of the datapath: no second answer; what a transfer does to memory and log is the write that it completes, and no more.
-use Prim.Native.Nat.{ℕ}
+use Prim.Native.Nat.{ℕ, _-_, _≤_}
 use mathlib.Core.Path.{_≡_, refl, sym, _∙_, ap}
 use mathlib.Core.Bool.{Bool, true, false, cond, true≢false}
 use mathlib.Core.List.{List}
+use native.Mathlib.Omega.{arith}
+use lib.ListN.{length}
 use lib.Dec.{eqb}
 use Rattle.bus.specs.Ports.{Left, writeAt}
-use Rattle.bus.specs.Log.{after}
-use Rattle.bus.proofs.Laws.{leaves}
+use Rattle.bus.specs.Log.{after, toLog}
+use Rattle.bus.proofs.Laws.{leaves, has-room}
 use Rattle.datapath.specs.Result.{jumps}
 use Rattle.datapath.specs.Transfer.{Found, Transfer, moved, waits, completedRead, completedWrite, reads, writes, transferred, completes, sends, foundIn, leftIn}
 use Rattle.datapath.specs.declared.Half.{Half}
@@ -66,3 +68,21 @@ transfer-refused false true input Nothing at f = absurd (true≢false (sym f))
 transfer-refused false true input Read at f = absurd (true≢false (sym f))
 transfer-refused false true input Write at f = leaves (at .memory) (at .log) (at .count) (at .rem) (at .rdm) .refused f
 transfer-refused false false input half at f = absurd (true≢false (sym f))
+
+-- Without RD a transfer leaves RDM.
+pub rdm-stays : (wr : Bool) (input : List ℕ) (half : Half) (at : Found) → transferred false wr input half at .rdm ≡ at .rdm
+unfolding transferred waits writes completedWrite
+rdm-stays true input Nothing at = refl
+rdm-stays true input Read at = refl
+rdm-stays true input Write at = refl
+rdm-stays false input half at = refl
+
+-- A transfer that is not refused has room for the word that it sends to the log.
+pub sends-fit : (rd wr : Bool) (input : List ℕ) (half : Half) (at : Found) → transferred rd wr input half at .full ≡ false
+    → length (toLog (sends rd wr half at)) ≤ length (at .log) - at .count
+unfolding transferred sends completes writes completedWrite toLog
+sends-fit true wr input half at f = omega arith
+sends-fit false true input Nothing at f = omega arith
+sends-fit false true input Read at f = omega arith
+sends-fit false true input Write at f = has-room (at .memory) (at .log) (at .count) (at .rem) (at .rdm) f
+sends-fit false false input half at f = omega arith

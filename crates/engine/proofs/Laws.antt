@@ -13,7 +13,7 @@ use Rattle.datapath.specs.declared.Moved.{Moved}
 use Rattle.datapath.specs.declared.Half.{Half}
 use Rattle.datapath.specs.Result.{keeps}
 use Rattle.datapath.specs.Transfer.{Found, Transfer, moved, transferred, leftIn}
-use Rattle.datapath.proofs.Laws.{transfer-refused}
+use Rattle.datapath.proofs.Laws.{transfer-refused, rdm-stays}
 use Rattle.bus.specs.Ports.{Left}
 use Rattle.microword.specs.declared.Fields.{Fields}
 use Rattle.microword.specs.Microword.{fieldsOf}
@@ -45,11 +45,18 @@ module _ {store input : List ℕ} {core : Core} {registers memory log : List ℕ
   unfolding driven transfer
   is-driven = rw (← t .fields, ← t .computed, ← t .kept, t .moves)
 
+  -- Without RD the transfer's RDM is the one that stands there.
+  same-rdm : (rd : Bool) → eqb (m .rd) 1 ≡ rd → cond rd (set registers₁ 7 (r .rdm)) registers₁ ≡ set registers₁ 7 (r .rdm)
+  same-rdm true e = refl
+  same-rdm false e =
+      let w : r .rdm ≡ getD registers₁ 7 0 = sym (ap (λ (x : Transfer). x .rdm) (rw e at (t .moves))) ∙ rdm-stays (eqb (m .wr) 1) input (core .half) _ in
+      rw w (sym (set-getD registers₁ 7 0))
+
   pub carried : {line : Line} → r .full ≡ false → line .0 ≡ nextLine m value (core .line .0)
       → cycle store input (joined core registers memory log)
-      ≡ stepped (record { core = record { line = line; half = r .half; place = r .place; count = r .count }; full = false }) (set registers₁ 7 (r .rdm)) memory₂ log₂
+      ≡ stepped (record { core = record { line = line; half = r .half; place = r .place; count = r .count }; full = false }) (cond (eqb (m .rd) 1) (set registers₁ 7 (r .rdm)) registers₁) memory₂ log₂
   unfolding cycle settled
-  carried f l = rw (is-driven, f, l)
+  carried f l = rw (is-driven, f, l, same-rdm _ refl)
 
   pub refused : r .full ≡ true → cycle store input (joined core registers memory log)
       ≡ stepped (record { core = core; full = true }) (set registers₁ (m .s) (getD registers (m .s) 0)) memory₂ log₂

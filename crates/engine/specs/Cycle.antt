@@ -5,9 +5,10 @@ use mathlib.Core.List.{List}
 use lib.ListN.{length, getD, set}
 use lib.Dec.{eqb}
 use Rattle.word.specs.Number.{sum}
+use Rattle.bus.specs.Log.{Sent}
 use Rattle.datapath.specs.declared.Half.{Half}
 use Rattle.datapath.specs.Result.{alu, negative, isZero, jumps, keeps}
-use Rattle.datapath.specs.Transfer.{Found, Transfer, transferred}
+use Rattle.datapath.specs.Transfer.{Found, Transfer, transferred, sends}
 use Rattle.microword.specs.declared.Fields.{Fields}
 use Rattle.microword.specs.Microword.{fieldsOf}
 
@@ -38,18 +39,22 @@ result m registers = alu (m .f) (getD registers (m .a) 0) (getD registers (m .b)
 unfoldable pub stored : Fields → ℕ → List ℕ → List ℕ
 stored m value registers = cond (eqb (m .hs) 1) (set registers (m .s) (keeps (m .s) value)) registers
 
--- Memory transfer: the address is REM and the written word is RDM, both as they stand after this cycle's store.
-unfoldable pub transfer : Fields → List ℕ → List ℕ → State → Transfer
-transfer m input registers s =
-    transferred (eqb (m .rd) 1) (eqb (m .wr) 1) input (s .half)
-    (record {
+-- The address is REM and the written word is RDM, both as they stand after this cycle's store.
+abbrev pub found : List ℕ → State → Found
+found registers s =
+    record {
       rem = getD registers 6 0;
       rdm = getD registers 7 0;
       place = s .place;
       count = s .count;
       memory = s .memory;
       log = s .log;
-    })
+    }
+
+-- Memory transfer.
+unfoldable pub transfer : Fields → List ℕ → List ℕ → State → Transfer
+transfer m input registers s =
+    transferred (eqb (m .rd) 1) (eqb (m .wr) 1) input (s .half) (found registers s)
 
 -- New CMP, by N and Z of this same cycle; after 63 comes 0.
 unfoldable pub target : Fields → Bool → ℕ → ℕ
@@ -93,3 +98,9 @@ settled s c = cond (c .full) (record { next = s; full = true }) c
 
 unfoldable pub cycle : List ℕ → List ℕ → State → Cycled
 cycle store input s = settled s (driven (fieldsOf (controlWord store (s .line))) input s)
+
+-- The write that a cycle completes, if any.
+unfoldable pub written : List ℕ → List ℕ → State → List Sent
+written store input s =
+    let m : Fields = fieldsOf (controlWord store (s .line)) in
+    sends (eqb (m .rd) 1) (eqb (m .wr) 1) (s .half) (found (stored m (result m (s .registers)) (s .registers)) s)

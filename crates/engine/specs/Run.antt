@@ -1,11 +1,12 @@
 -- A run of cycles: the refusals before it, the cycles in turn, and what it answers (01, Instructions; Answer numbers).
 use Prim.Native.Nat.{ℕ, zero, suc, _+_}
 use mathlib.Core.Bool.{Bool, true, false, cond, not, _||_}
-use mathlib.Core.List.{List}
+use mathlib.Core.List.{List, [], _++_}
 use lib.ListN.{length}
 use lib.Dec.{ltb, eqb}
 use Rattle.microword.specs.Microword.{firstBad}
-use Rattle.engine.specs.Cycle.{State, Cycled, register, cycle}
+use Rattle.bus.specs.Log.{Sent}
+use Rattle.engine.specs.Cycle.{State, Cycled, register, cycle, written}
 use Rattle.engine.specs.declared.Answer.{Answer}
 use Rattle.engine.specs.declared.Answer.the-variants.{Done, Sizes, Places, Ranges, BadWord, LogFull}
 use Rattle.engine.specs.declared.Machine.{Machine}
@@ -58,6 +59,12 @@ cycles store input zero s = record { state = s; done = 0; said = says 0 }
 cycles store input (suc n) s =
     onwards (cycle store input s .full) (cycle store input s .next) (cycles store input n (cycle store input s .next))
 
+-- The writes that a run completes, in order.
+unfoldable pub writes : List ℕ → List ℕ → ℕ → State → List Sent
+writes store input zero s = []
+writes store input (suc n) s =
+    cond (cycle store input s .full) [] (written store input s ++ writes store input n (cycle store input s .next))
+
 -- Counts with refusals 1 to 4 are 0, and all is left as found.
 unfoldable pub begun : Said → List ℕ → List ℕ → ℕ → State → Ended
 begun refused store input n s = cond (eqb (refused .number) 0) (cycles store input n s) (record { state = s; done = 0; said = refused })
@@ -81,3 +88,14 @@ stateOf m memory log =
 -- What the code's run hands back, with the lent lists.
 abbrev pub endedBy : Ran → List ℕ → List ℕ → Ended
 endedBy r memory log = record { state = stateOf (r .machine) memory log; done = r .done; said = saying (r .answer) }
+
+-- The operator's panel: one cycle a press, which equals the engine's run of 1 on the same values, refusals included.
+pub record Press : Type 0 where
+  pub state : State
+  pub said : Said
+
+unfoldable pub press : List ℕ → List ℕ → State → Press
+press store input s = record { state = runs store input 1 s .state; said = runs store input 1 s .said }
+
+abbrev pub pressedBy : Answer → Machine → List ℕ → List ℕ → Press
+pressedBy answer machine memory log = record { state = stateOf machine memory log; said = saying answer }

@@ -1,10 +1,11 @@
 // The cycle engine for any control store: one cycle, a run, and the panel's press.
 ghost use mathlib.Core.Path.{_≡_};
-ghost use mathlib.Core.Bool.{true, false};
-ghost use lib.ListN.{length, getD};
+ghost use mathlib.Core.Bool.{cond};
+ghost use lib.Dec.{eqb};
+ghost use lib.ListN.{set};
 ghost use Rattle.microword.specs.Microword.{fieldsOf};
 ghost use Rattle.engine.specs.Cycle.{controlWord, result, stored, nextLine, cycle};
-ghost use Rattle.engine.specs.Run.{refusal, saying, cycles, runs, stateOf, endedBy};
+ghost use Rattle.engine.specs.Run.{refusal, saying, cycles, runs, press, stateOf, endedBy, pressedBy};
 ghost use Rattle.engine.specs.Core.{joined, stepped, machineOf};
 ghost use Prim.Native.Nat.{_<_};
 use datapath::Half;
@@ -39,6 +40,12 @@ pub struct Ran {
     pub machine: Machine,
     pub done: u32,
     pub answer: Answer,
+}
+
+// What a press comes to, and the machine after it.
+pub struct Pressed {
+    pub answer: Answer,
+    pub machine: Machine,
 }
 
 // What a cycle changes beside registers, memory and log.
@@ -82,6 +89,15 @@ fn store_value(m: Fields, value: u16, registers: &mut [u16; 8])
     }
 }
 
+// Only a cycle with RD can change RDM by its transfer: the others need not touch it.
+fn arrive(rd: u32, word: u16, registers: &mut [u16; 8])
+    ensures { λ _. ⌜ now (registers .exit) ≡ cond (eqb rd 1) (set (now (registers .entry)) 7 word) (now (registers .entry)) ⌝ }
+{
+    if rd == 1 {
+        registers[RDM] = word;
+    }
+}
+
 // One cycle, in place; a refused one leaves everything as it was.
 fn step(
     store: &[u32],
@@ -117,7 +133,7 @@ fn step(
         registers[s] = old;
         return Stepped { core, full: true };
     }
-    registers[RDM] = moved.rdm;
+    arrive(m.rd, moved.rdm, registers);
     let line = next_line(m, value, core.line);
     let half = moved.half;
     Stepped {
@@ -223,4 +239,20 @@ pub fn run(
             answer,
         },
     }
+}
+
+// One cycle a press: a run of 1.
+pub fn run_one(
+    machine: Machine,
+    memory: &mut [u16],
+    input: &[u16],
+    log: &mut [u16],
+    store: &[u32],
+) -> Pressed
+    ensures { λ r. ⌜ press (now (store .entry)) (now (input .entry)) (stateOf machine (now (memory .entry)) (now (log .entry))) ≡ pressedBy (r .answer) (r .machine) (now (memory .exit)) (now (log .exit)) ⌝ }
+{
+    let ran = run(store, memory, input, log, machine, 1);
+    let answer = ran.answer;
+    let machine = ran.machine;
+    Pressed { answer, machine }
 }

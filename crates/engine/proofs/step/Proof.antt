@@ -2,11 +2,11 @@
 use Prim.Native.Nat.{ℕ}
 use mathlib.Core.Path.{_≡_, _∙_, ap}
 use borrow.Author.Needs.{needs}
-use Rattle.microword.proofs.Laws.{Within, fields-within}
-use Rattle.engine.proofs.Laws.{carried, refused}
-use Rattle.engine.specs.Cycle.{result}
 use Rattle.microword.specs.Microword.{fieldsOf}
+use Rattle.engine.proofs.Laws.{carried, refused}
+use Rattle.microword.proofs.Laws.{Within, fields-within}
 use Rattle.microword.specs.declared.Fields.{Fields}
+use Rattle.engine.specs.Cycle.{result}
 use Rattle.engine.proofs.step.Statement.{statement}
 use Rattle.engine.proofs.step.Tie as tie
 
@@ -77,11 +77,11 @@ returns : tie.Need-returns
 unfolding result
 returns c = refused (record { fields = c .before .before .before .before .before .before .before .before .before .before .before .before .before .before .before .before .before .before .before .before .before .fields-of .ensures ∙ ap fieldsOf (c .before .before .before .before .before .before .before .before .before .before .before .before .before .before .before .before .before .before .before .before .before .before .control-word .ensures); computed = c .before .before .before .before .before .before .before .before .before .before .before .before .before .before .before .compute .ensures; kept = c .before .before .before .before .before .before .before .before .before .before .before .before .store-value .ensures; moves = c .before .before .before .before .before .transfer .ensures }) (c .if1 .taken)
 
-element-write-registers-2 : tie.Need-element-write-registers-2
-element-write-registers-2 c = search needs
+arrive-requires : tie.Need-arrive-requires
+arrive-requires c κs = search needs
 
 next-line-requires : tie.Need-next-line-requires
-next-line-requires c κs = within _ (c .before .before .before .before .before .before .before .before .before .before .before .before .before .before .before .before .before .before .before .before .before .fields-of .ensures) .end
+next-line-requires c κs = within _ (c .before .before .before .before .before .before .before .before .before .before .before .before .before .before .before .before .before .before .before .before .before .before .before .fields-of .ensures) .end
 
 same-length-3 : tie.Need-same-length-3
 same-length-3 c = search needs
@@ -91,7 +91,7 @@ same-length-4 c = search needs
 
 returns-2 : tie.Need-returns-2
 unfolding result
-returns-2 c = carried (record { fields = c .before .before .before .before .before .before .before .before .before .before .before .before .before .before .before .before .before .before .before .before .before .before .fields-of .ensures ∙ ap fieldsOf (c .before .before .before .before .before .before .before .before .before .before .before .before .before .before .before .before .before .before .before .before .before .before .before .control-word .ensures); computed = c .before .before .before .before .before .before .before .before .before .before .before .before .before .before .before .before .compute .ensures; kept = c .before .before .before .before .before .before .before .before .before .before .before .before .before .store-value .ensures; moves = c .before .before .before .before .before .before .transfer .ensures }) (c .before .if1 .left) (c .next-line .ensures)
+returns-2 c = rw (c .before .arrive .ensures) (carried (record { fields = c .before .before .before .before .before .before .before .before .before .before .before .before .before .before .before .before .before .before .before .before .before .before .before .before .fields-of .ensures ∙ ap fieldsOf (c .before .before .before .before .before .before .before .before .before .before .before .before .before .before .before .before .before .before .before .before .before .before .before .before .before .control-word .ensures); computed = c .before .before .before .before .before .before .before .before .before .before .before .before .before .before .before .before .before .before .compute .ensures; kept = c .before .before .before .before .before .before .before .before .before .before .before .before .before .before .before .store-value .ensures; moves = c .before .before .before .before .before .before .before .before .transfer .ensures }) (c .before .before .before .if1 .left) (c .next-line .ensures))
 
 pub step-spec : {M : Type 1} → statement M
 step-spec =
@@ -118,7 +118,7 @@ step-spec =
     same-length
     same-length-2
     returns
-    element-write-registers-2
+    arrive-requires
     next-line-requires
     same-length-3
     same-length-4

@@ -1,0 +1,5 @@
+pub mod Answers
+pub mod Records
+pub mod RoundTrip
+pub mod Laws
+pub mod Putting

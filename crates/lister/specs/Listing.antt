@@ -1,0 +1,87 @@
+-- The bytes of a listing (01, Micro text and images): of an operation, of a jump, of a line, of a control store.
+use Prim.Native.Nat.{ℕ, suc, _+_, _/_, _%_}
+use Prim.Native.Char.{code}
+use Prim.Native.String.{String, [] as []ˢ, _∷_ as _∷ˢ_}
+use mathlib.Core.Bool.{Bool, cond, not, _||_}
+use mathlib.Core.List.{List, [], _∷_, _++_}
+use lib.Dec.{ltb, eqb}
+use lib.ListN.{getD}
+use Rattle.microword.specs.Microword.{fieldsOf, normalForm, idle}
+use Rattle.microword.specs.declared.Fields.{Fields}
+
+-- A text's bytes.
+abbrev pub bytes : String → List ℕ
+bytes []ˢ = []
+bytes (c ∷ˢ s) = code c ∷ bytes s
+
+-- A number below 100 in decimal, with no leading zero; byte 48 is the digit 0.
+unfoldable pub decimal : ℕ → List ℕ
+decimal k = cond (ltb k 10) ((48 + k) ∷ []) ((48 + k / 10) ∷ (48 + k % 10) ∷ [])
+
+-- Registers, by number: 0 CP, 1 AC, 2 PP, 3 RI, 4 RT, 5 MASC, 6 REM, 7 RDM; all letters are small.
+unfoldable pub registers : List (List ℕ)
+registers = bytes "cp" ∷ bytes "ac" ∷ bytes "pp" ∷ bytes "ri" ∷ bytes "rt" ∷ bytes "masc" ∷ bytes "rem" ∷ bytes "rdm" ∷ []
+
+abbrev pub register : ℕ → List ℕ
+register r = getD registers r []
+
+-- What F computes of the registers a and b: r, r+1, r-1, r+r, r-r, r^r, <<r, >>r.
+unfoldable pub formulas : List ℕ → List ℕ → List (List ℕ)
+formulas a b =
+    a ∷ (a ++ bytes "+1") ∷ (a ++ bytes "-1") ∷ (a ++ bytes "+" ++ b) ∷ (a ++ bytes "-" ++ b) ∷ (a ++ bytes "^" ++ b) ∷ (bytes "<<" ++ a)
+    ∷ (bytes ">>" ++ a) ∷ []
+
+abbrev pub formula : Fields → List ℕ
+formula m = getD (formulas (register (m .a)) (register (m .b))) (m .f) []
+
+-- `alu` stores nothing.
+abbrev pub destination : Fields → List ℕ
+destination m = cond (eqb (m .hs) 0) (bytes "alu") (register (m .s))
+
+-- An operation is a register or `alu`, `:=`, and one of the formulas; no brackets.
+unfoldable pub operation : Fields → List ℕ
+operation m = destination m ++ bytes ":=" ++ formula m
+
+-- Jumps, by SQ: none, `if n then goto k`, `if z then goto k`, `goto k`.
+unfoldable pub jumps : List (List ℕ)
+jumps = [] ∷ bytes "if n then goto " ∷ bytes "if z then goto " ∷ bytes "goto " ∷ []
+
+unfoldable pub jump : Fields → List ℕ
+jump m = getD jumps (m .sq) [] ++ decimal (m .end)
+
+-- For each part a space, the part, a semicolon.
+abbrev pub part : Bool → List ℕ → List ℕ
+part there text = cond there (bytes " " ++ text ++ bytes ";") []
+
+-- Nothing asks for the result of an idle word, so it has no operation.
+abbrev pub operationPart : Fields → List ℕ
+operationPart m = part (not (idle m)) (operation m)
+
+abbrev pub transferPart : Fields → List ℕ
+transferPart m = part (eqb (m .rd) 1 || eqb (m .wr) 1) (cond (eqb (m .rd) 1) (bytes "rd") (bytes "wr"))
+
+abbrev pub jumpPart : Fields → List ℕ
+jumpPart m = part (not (eqb (m .sq) 0)) (jump m)
+
+-- Number, colon, then the parts in the order operation, rd or wr, jump; byte 10 last.
+unfoldable pub line : ℕ → Fields → List ℕ
+line number m = decimal number ++ bytes ":" ++ operationPart m ++ transferPart m ++ jumpPart m ++ 10 ∷ []
+
+-- Words as lines, numbered from `number` on.
+unfoldable pub lines : ℕ → List ℕ → List ℕ
+lines number [] = []
+lines number (w ∷ ws) = line number (fieldsOf w) ++ lines (suc number) ws
+
+-- A word before others that are printed is printed; the last only if its normal form is not 0.
+unfoldable pub upTo : ℕ → List ℕ → List ℕ
+upTo w [] = cond (eqb (normalForm w) 0) [] (w ∷ [])
+upTo w (x ∷ xs) = w ∷ x ∷ xs
+
+-- The words up to the last whose normal form is not 0.
+unfoldable pub shown : List ℕ → List ℕ
+shown [] = []
+shown (w ∷ ws) = upTo w (shown ws)
+
+-- The lister prints lines up to the last whose normal form is not 0.
+abbrev pub listing : List ℕ → List ℕ
+listing store = lines 0 (shown store)
