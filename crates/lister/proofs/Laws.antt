@@ -12,7 +12,9 @@ use lib.ListN.{length, getD, take, drop, set, length-append, length-take, drop-o
 use lib.Seq.{sets, sets-eq, drop-cons, take-suc, length-take-le, take-at}
 use Rattle.microword.specs.Microword.{fieldsOf, normalFields, normalForm, idle, binary, firstBad}
 use Rattle.microword.specs.declared.Fields.{Fields}
-use Rattle.lister.specs.Listing.{bytes, decimal, registers, register, formulas, formula, operation, jumps, jump, part, line, lines, upTo, shown, listing, transferPart}
+use Rattle.microtext.specs.Listing.{decimal, register, formulas, formula, operation, jumps, jump, part, line, lines, upTo, shown, listing, transferPart}
+use Rattle.microtext.specs.Text.{bytes}
+use Rattle.microtext.specs.Grammar.{registers}
 use Rattle.lister.specs.Pieces.{Wrote, entry, Entry, Small, signsBefore, signsBehind}
 use Rattle.lister.specs.Answers.{Outcome, number, named, refused, done, listed, seen}
 use Rattle.lister.specs.declared.Answer.{Answer}
@@ -148,7 +150,7 @@ formula-pieces (suc (suc (suc (suc (suc (suc (suc (suc f)))))))) a b h = absurd 
 
 -- Lengths: of a register, of what F computes, of a number, of a part.
 register-le : (r : ℕ) → length (register r) ≤ 4
-unfolding registers Short
+unfolding Short
 register-le r = short-at 4 registers r (omega arith)
 
 formula-le : (m : Fields) → length (formula m) ≤ 9

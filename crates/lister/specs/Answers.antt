@@ -5,7 +5,7 @@ use mathlib.Core.List.{List, _++_}
 use lib.Dec.{ltb, eqb}
 use lib.ListN.{length, drop}
 use Rattle.microword.specs.Microword.{firstBad}
-use Rattle.lister.specs.Listing.{listing}
+use Rattle.microtext.specs.Listing.{listing}
 use Rattle.lister.specs.declared.Listed.{Listed}
 use Rattle.lister.specs.declared.Answer.{Answer}
 use Rattle.lister.specs.declared.Answer.the-variants.{Done, WrongStore, SmallRoom, BadWord, PastRoom}

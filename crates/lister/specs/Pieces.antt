@@ -5,7 +5,8 @@ use mathlib.Core.Bool.{cond}
 use mathlib.Core.List.{List, [], _∷_}
 use lib.ListN.{length, getD, take, drop}
 use lib.Seq.{sets}
-use Rattle.lister.specs.Listing.{bytes, register}
+use Rattle.microtext.specs.Listing.{register}
+use Rattle.microtext.specs.Text.{bytes}
 use Rattle.microword.specs.Microword.{binary}
 use Rattle.microword.specs.declared.Fields.{Fields}
 

@@ -3,7 +3,7 @@ ghost use mathlib.Core.Path.{_≡_};
 ghost use Prim.Native.Nat.{_+_, _<_, _≤_};
 ghost use lib.ListN.{length};
 ghost use Rattle.microword.specs.Microword.{fieldsOf};
-ghost use Rattle.lister.specs.Listing.{decimal, register, formula, destination, operationPart, transferPart, jumpPart, line, lines, shown};
+ghost use Rattle.microtext.specs.Listing.{decimal, register, formula, destination, operationPart, transferPart, jumpPart, line, lines, shown};
 ghost use Rattle.lister.specs.Pieces.{Wrote, entry, Entry, second, Small};
 ghost use Rattle.lister.specs.Answers.{listed, seen};
 use microword::Fields;

@@ -6,7 +6,7 @@ use lib.ListN.{length, drop, getD}
 use Prim.Native.Nat.{_+_, _-_, _*_, _≤_}
 use Rattle.lister.proofs.Laws.{lines-length, lines-end, line-le}
 use Rattle.lister.proofs.Laws.{lines-end, line-le}
-use Rattle.lister.specs.Listing.{lines}
+use Rattle.microtext.specs.Listing.{lines}
 use Rattle.microword.specs.Microword.{fieldsOf}
 use Rattle.lister.proofs.lines_length.Statement.{statement}
 use Rattle.lister.proofs.lines_length.Tie as tie

@@ -6,7 +6,7 @@ use lib.ListN.{length, getD, length-append}
 use mathlib.Core.Path.{refl, sym, ap}
 use borrow.Author.Needs.{needs}
 use Rattle.lister.proofs.Laws.{cut, inside, entry-fits, entry-put, same-text, formula-pieces, _then_}
-use Rattle.lister.specs.Listing.{register, formula}
+use Rattle.microtext.specs.Listing.{register, formula}
 use Rattle.microword.specs.declared.Fields.{Fields}
 use Rattle.lister.specs.Pieces.{signsBefore, signsBehind, second}
 use Rattle.microword.specs.Microword.{binary}

@@ -6,7 +6,7 @@ use native.Mathlib.Omega.{arith}
 use mathlib.Core.Path.{_≡_, refl}
 use mathlib.Core.List.{[]}
 use borrow.Author.Needs.{needs}
-use Rattle.lister.specs.Listing.{decimal, jumps, jump, jumpPart}
+use Rattle.microtext.specs.Listing.{decimal, jumps, jump, jumpPart}
 use Rattle.lister.proofs.Laws.{cut, inside, entry-fits, entry-put, nothing, _then_}
 use Rattle.microword.specs.declared.Fields.{Fields}
 use Rattle.lister.proofs.put_jump.Statement.{statement}

@@ -4,7 +4,7 @@ use lib.ListN.{length, length-append}
 use Prim.Native.Nat.{ℕ, _+_, _≤_}
 use borrow.Author.Needs.{needs}
 use Rattle.lister.proofs.Laws.{_then_, small, line-le}
-use Rattle.lister.specs.Listing.{decimal, line, operationPart, transferPart, jumpPart}
+use Rattle.microtext.specs.Listing.{decimal, line, operationPart, transferPart, jumpPart}
 use Rattle.microword.specs.declared.Fields.{Fields}
 use Rattle.lister.proofs.put_line.Statement.{statement}
 use Rattle.lister.proofs.put_line.Tie as tie

@@ -10,7 +10,7 @@ use native.Mathlib.Omega.{arith}
 use lib.Seq.{sets}
 use Rattle.lister.proofs.Laws.{lines-next, lines-length, lines-end, line-le, at-start, same-text, stored-on}
 use Rattle.microword.specs.Microword.{fieldsOf}
-use Rattle.lister.specs.Listing.{lines}
+use Rattle.microtext.specs.Listing.{lines}
 use Rattle.lister.proofs.Laws.{lines-next, lines-end, line-le}
 use Rattle.lister.proofs.put_lines.Statement.{statement}
 use Rattle.lister.proofs.put_lines.Tie as tie

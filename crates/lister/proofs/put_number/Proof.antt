@@ -5,7 +5,7 @@ use lib.ListN.{length-set}
 use mathlib.Core.Path.{refl}
 use native.Mathlib.Numerals.{add-one}
 use borrow.Author.Needs.{needs}
-use Rattle.lister.specs.Listing.{decimal}
+use Rattle.microtext.specs.Listing.{decimal}
 use Rattle.lister.proofs.put_number.Statement.{statement}
 use Rattle.lister.proofs.put_number.Tie as tie
 

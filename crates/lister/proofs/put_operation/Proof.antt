@@ -6,7 +6,7 @@ use native.Mathlib.Omega.{arith}
 use mathlib.Core.Bool.{false}
 use borrow.Author.Needs.{needs}
 use Rattle.lister.proofs.Laws.{nothing, _then_}
-use Rattle.lister.specs.Listing.{destination, formula, operation, operationPart}
+use Rattle.microtext.specs.Listing.{destination, formula, operation, operationPart}
 use Rattle.microword.specs.declared.Fields.{Fields}
 use Rattle.microword.specs.Microword.{idle}
 use Rattle.lister.proofs.put_operation.Statement.{statement}

@@ -2,7 +2,7 @@
 use native.Mathlib.Omega.{arith}
 use mathlib.Core.Path.{refl}
 use borrow.Author.Needs.{needs}
-use Rattle.lister.specs.Listing.{registers}
+use Rattle.microtext.specs.Grammar.{registers}
 use Rattle.lister.proofs.Laws.{cut, inside, entry-fits, entry-put}
 use Rattle.lister.proofs.put_register.Statement.{statement}
 use Rattle.lister.proofs.put_register.Tie as tie
@@ -14,7 +14,7 @@ slice-aggregate-put-entry-2 : tie.Need-slice-aggregate-put-entry-2
 slice-aggregate-put-entry-2 c = search needs
 
 put-entry-requires : tie.Need-put-entry-requires
-unfolding registers cut inside
+unfolding cut inside
 put-entry-requires c κs = let s = c .before .before .before .before in
     entry-fits _ _ _ registers (omega arith) refl _ _ tt (s .pre .1)
 
@@ -22,7 +22,7 @@ same-length : tie.Need-same-length
 same-length c = search needs
 
 returns : tie.Need-returns
-unfolding registers cut
+unfolding cut
 returns c = entry-put _ _ _ registers (omega (arith, c .before .before .before .before .before .before .before .pre)) refl (c .before .before .put-entry .ensures)
 
 pub put-register-spec : {M : Type 1} → statement M

@@ -6,7 +6,7 @@ use native.Mathlib.Omega.{arith}
 use lib.ListN.{length, take}
 use mathlib.Core.Path.{_≡_, sym, ap, _∙_}
 use Rattle.lister.proofs.Laws.{last-shown, last-hidden}
-use Rattle.lister.specs.Listing.{shown}
+use Rattle.microtext.specs.Listing.{shown}
 use Rattle.lister.proofs.shown_words.Statement.{statement}
 use Rattle.lister.proofs.shown_words.Tie as tie
 

@@ -1,27 +1,19 @@
 -- The bytes of a listing (01, Micro text and images): of an operation, of a jump, of a line, of a control store.
 use Prim.Native.Nat.{ℕ, suc, _+_, _/_, _%_}
-use Prim.Native.Char.{code}
-use Prim.Native.String.{String, [] as []ˢ, _∷_ as _∷ˢ_}
 use mathlib.Core.Bool.{Bool, cond, not, _||_}
 use mathlib.Core.List.{List, [], _∷_, _++_}
 use lib.Dec.{ltb, eqb}
 use lib.ListN.{getD}
 use Rattle.microword.specs.Microword.{fieldsOf, normalForm, idle}
 use Rattle.microword.specs.declared.Fields.{Fields}
-
--- A text's bytes.
-abbrev pub bytes : String → List ℕ
-bytes []ˢ = []
-bytes (c ∷ˢ s) = code c ∷ bytes s
+use Rattle.microtext.specs.Text.{bytes}
+use Rattle.microtext.specs.Grammar.{registers}
 
 -- A number below 100 in decimal, with no leading zero; byte 48 is the digit 0.
 unfoldable pub decimal : ℕ → List ℕ
 decimal k = cond (ltb k 10) ((48 + k) ∷ []) ((48 + k / 10) ∷ (48 + k % 10) ∷ [])
 
--- Registers, by number: 0 CP, 1 AC, 2 PP, 3 RI, 4 RT, 5 MASC, 6 REM, 7 RDM; all letters are small.
-unfoldable pub registers : List (List ℕ)
-registers = bytes "cp" ∷ bytes "ac" ∷ bytes "pp" ∷ bytes "ri" ∷ bytes "rt" ∷ bytes "masc" ∷ bytes "rem" ∷ bytes "rdm" ∷ []
-
+-- A register by its name.
 abbrev pub register : ℕ → List ℕ
 register r = getD registers r []
 
