@@ -153,11 +153,11 @@ unfolding filled lines
 filled-done text ws k at h = rw (drop-of-length-le text h)
 
 -- The answers.
-pub wrong-store : (text store : List ℕ) → (length store ≡ 64 → ⊥) → assembled text store ≡ record { answer = WrongStore; store = store }
+pub wrong-store : (text store : List ℕ) → (length store ≡ 64 → ⊥) → assembled text store ≡ record { answer = 1; store = store }
 unfolding assembled
 wrong-store text store h = rw (ne-eqb (length store) 64 h)
 
-pub long-text : (text store : List ℕ) → length store ≡ 64 → 8192 < length text → assembled text store ≡ record { answer = LongText; store = store }
+pub long-text : (text store : List ℕ) → length store ≡ 64 → 8192 < length text → assembled text store ≡ record { answer = 10; store = store }
 unfolding assembled
 long-text text store h l = rw (eq-eqb (length store) 64 h, lt-leb (length text) 8192 l)
 

@@ -12,13 +12,15 @@ use lib.ListN.{length, drop, set, replicate, length-append, length-map}
 use lib.Seq.{sets, sets-eq}
 use Rattle.microword.specs.Microword.{fieldsOf, badWord, idle, binary, normalForm, unusedClear, isNormal}
 use Rattle.microword.proofs.Laws.{fields-within}
-use Rattle.microtext.specs.Line.{line}
+use Rattle.microtext.specs.Line.{line, faultNumber}
+use Rattle.microtext.specs.declared.Fault.{Fault}
+use Rattle.microtext.specs.declared.Fault.the-variants.{ExtraLine, WrongNumber, Ungrammatical, FarTarget, WrongParts}
 use Rattle.microtext.specs.Listing as listing
 use Rattle.microtext.specs.Listing.{decimal, upTo, shown}
 use Rattle.microtext.specs.declared.Meaning.{Meaning}
 use Rattle.microtext.specs.declared.Meaning.the-variants.{Word, Refused as RefusedLine}
 use Rattle.microtext.proofs.Tests.{both}
-use Rattle.assembler.specs.Assembled.{prefixed, lines, Words, laid, faulty, onward, filled, zeroWords, Outcome, outcome, assembled}
+use Rattle.assembler.specs.Assembled.{answerNumber, prefixed, lines, Words, laid, faulty, onward, filled, zeroWords, Outcome, outcome, assembled}
 use Rattle.assembler.specs.declared.Answer.{Answer}
 use Rattle.assembler.specs.declared.Answer.the-variants.{Done, WrongStore, LongText, Refused}
 use Rattle.assembler.proofs.Filled.{by-lines}
@@ -27,10 +29,41 @@ use Rattle.assembler.proofs.Printed.{unbroken, number-back}
 use Rattle.assembler.proofs.Pieces.{spaced}
 use Rattle.assembler.proofs.Relisted.{Each, texts, texts-each, texts-few, body, body-spaced, line-back}
 
+-- A faulty line has a number of its own, and so has every answer.
+fault-told : (f : Fault) → faultNumber f ≡ 0 → ⊥
+fault-told ExtraLine e = omega arith
+fault-told WrongNumber e = omega arith
+fault-told Ungrammatical e = omega arith
+fault-told FarTarget e = omega arith
+fault-told WrongParts e = omega arith
+
+answerOf : ℕ → Answer
+answerOf n =
+    cond (eqb n 0) Done
+    (cond (eqb n 1) WrongStore
+    (cond (eqb n 10) LongText
+    (cond (eqb n 11) (Refused ExtraLine)
+    (cond (eqb n 12) (Refused WrongNumber)
+    (cond (eqb n 13) (Refused Ungrammatical)
+    (cond (eqb n 14) (Refused FarTarget) (Refused WrongParts)))))))
+
+answer-back : (a : Answer) → answerOf (answerNumber a) ≡ a
+unfolding answerOf
+answer-back Done = refl
+answer-back WrongStore = refl
+answer-back LongText = refl
+answer-back (Refused ExtraLine) = refl
+answer-back (Refused WrongNumber) = refl
+answer-back (Refused Ungrammatical) = refl
+answer-back (Refused FarTarget) = refl
+answer-back (Refused WrongParts) = refl
+
 -- No second answer, and no second store afterwards.
-pub only : (text store : List ℕ) (a b : Answer) (x y : List ℕ) → assembled text store ≡ record { answer = a; store = x } → assembled text store ≡ record { answer = b; store = y }
-    → (a ≡ b) × (x ≡ y)
-only text store a b x y p q = let e = sym p ∙ q in (ap (λ (o : Outcome). o .answer) e, ap (λ (o : Outcome). o .store) e)
+pub only : (text store : List ℕ) (a b : Answer) (x y : List ℕ) → assembled text store ≡ record { answer = answerNumber a; store = x }
+    → assembled text store ≡ record { answer = answerNumber b; store = y } → (a ≡ b) × (x ≡ y)
+only text store a b x y p q =
+    let e = sym p ∙ q in
+    (sym (answer-back a) ∙ ap (λ (o : Outcome). answerOf (o .answer)) e ∙ answer-back b, ap (λ (o : Outcome). o .store) e)
 
 -- Every word of an assembled store is normal.
 abbrev AllNormal : List ℕ → Type 0
@@ -57,16 +90,16 @@ unfolding isNormal unusedClear fieldsOf idle binary
 zero-normal zero = tt
 zero-normal (suc n) = (refl, zero-normal n)
 
-pub words-normal : (text store vs : List ℕ) → assembled text store ≡ record { answer = Done; store = vs } → AllNormal vs
+pub words-normal : (text store vs : List ℕ) → assembled text store ≡ record { answer = 0; store = vs } → AllNormal vs
 unfolding assembled
 words-normal text store vs e = go (eqb (length store) 64) (leb (length text) 8192) (filled 0 zeroWords (lines text)) refl e
   where
     go : (s t : Bool) (o : Words) → filled 0 zeroWords (lines text) ≡ o
-        → cond s (cond t (outcome store o) (record { answer = LongText; store = store })) (record { answer = WrongStore; store = store }) ≡ record { answer = Done; store = vs } → AllNormal vs
-    go false t o p q = let a : WrongStore ≡ Done = ap (λ (x : Outcome). x .answer) q in let z : _≡_ {A = ℕ} 0 1 = cc in absurd (omega arith)
-    go true false o p q = let a : LongText ≡ Done = ap (λ (x : Outcome). x .answer) q in let z : _≡_ {A = ℕ} 0 1 = cc in absurd (omega arith)
+        → cond s (cond t (outcome store o) (record { answer = 10; store = store })) (record { answer = 1; store = store }) ≡ record { answer = 0; store = vs } → AllNormal vs
+    go false t o p q = let a : _≡_ {A = ℕ} 1 0 = ap (λ (x : Outcome). x .answer) q in absurd (omega arith)
+    go true false o p q = let a : _≡_ {A = ℕ} 10 0 = ap (λ (x : Outcome). x .answer) q in absurd (omega arith)
     go true true (laid ws) p q = let v : ws ≡ vs = ap (λ (x : Outcome). x .store) q in rw v at (filled-normal (lines text) 0 zeroWords ws (zero-normal 64) p)
-    go true true (faulty f) p q = let a : Refused f ≡ Done = ap (λ (x : Outcome). x .answer) q in let z : _≡_ {A = ℕ} 0 1 = cc in absurd (omega arith)
+    go true true (faulty f) p q = absurd (fault-told f (ap (λ (x : Outcome). x .answer) q))
 
 -- Lines of a listing.
 lines-first : (l s : List ℕ) → unbroken l ≡ true → lines (l ++ 10 ∷ s) ≡ l ∷ lines s
@@ -213,6 +246,6 @@ filled-back ws h a =
     ∙ ap (λ (x : List ℕ). map normalForm (shown ws) ++ x) (drop-zeros (length (shown ws)) 64 ∙ ap zeros g)
     ∙ shown-normal ws)
 
-pub listing-back : (ws store : List ℕ) → length ws ≡ 64 → AllGood ws → length store ≡ 64 → assembled (listing.listing ws) store ≡ record { answer = Done; store = map normalForm ws }
+pub listing-back : (ws store : List ℕ) → length ws ≡ 64 → AllGood ws → length store ≡ 64 → assembled (listing.listing ws) store ≡ record { answer = 0; store = map normalForm ws }
 listing-back ws store h a k =
     by-lines (listing.listing ws) store (laid (map normalForm ws)) k (omega (arith, listed-short (shown ws) 0 (omega (arith, shown-few ws)), shown-few ws)) (filled-back ws h a)

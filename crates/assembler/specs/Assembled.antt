@@ -50,16 +50,16 @@ zeroWords = replicate 64 0
 
 -- The answer, and the store afterwards.
 pub record Outcome : Type 0 where
-  pub answer : Answer
+  pub answer : ℕ
   pub store : List ℕ
 
 abbrev pub outcome : List ℕ → Words → Outcome
-outcome store (laid ws) = record { answer = Done; store = ws }
-outcome store (faulty fault) = record { answer = Refused fault; store = store }
+outcome store (laid ws) = record { answer = 0; store = ws }
+outcome store (faulty fault) = record { answer = faultNumber fault; store = store }
 
 -- The assembler: 1, 10, then lines in turn; a refusal leaves the store as found.
 unfoldable pub assembled : List ℕ → List ℕ → Outcome
 assembled text store =
     cond (eqb (length store) 64)
-    (cond (leb (length text) 8192) (outcome store (filled 0 zeroWords (lines text))) (record { answer = LongText; store = store }))
-    (record { answer = WrongStore; store = store })
+    (cond (leb (length text) 8192) (outcome store (filled 0 zeroWords (lines text))) (record { answer = 10; store = store }))
+    (record { answer = 1; store = store })

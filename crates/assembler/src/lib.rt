@@ -1,7 +1,7 @@
 // The microassembler: micro text to a control store.
 ghost use mathlib.Core.Path.{_≡_};
 ghost use lib.ListN.{length};
-ghost use Rattle.assembler.specs.Assembled.{assembled};
+ghost use Rattle.assembler.specs.Assembled.{answerNumber, assembled};
 use microtext::Fault;
 use microtext::Reading;
 use word::Line;
@@ -28,7 +28,7 @@ fn copy_words(words: &[u32; 64], store: &mut [u32])
 
 // The control store that micro text asks for; a refusal leaves `store` as found.
 pub fn assemble(text: &[u8], store: &mut [u32]) -> Answer
-    ensures { λ r. ⌜ assembled (now (text .entry)) (now (store .entry)) ≡ record { answer = r; store = now (store .exit) } ⌝ }
+    ensures { λ r. ⌜ assembled (now (text .entry)) (now (store .entry)) ≡ record { answer = answerNumber r; store = now (store .exit) } ⌝ }
 {
     if store.len() != 64 {
         return Answer::WrongStore;

@@ -15,7 +15,6 @@ use Rattle.microtext.specs.Listing.{line, lines, upTo, shown, listing}
 use Rattle.lister.specs.Answers.{Outcome, refused, done, listed}
 use Rattle.lister.proofs.Laws.{line-normal}
 use Rattle.assembler.specs.Assembled.{assembled}
-use Rattle.assembler.specs.declared.Answer.the-variants.{Done}
 use Rattle.assembler.proofs.Laws.{AllGood, listing-back}
 use Rattle.way_back.specs.Back.{text, Back}
 
@@ -106,12 +105,12 @@ back store room e =
     let l : Listable store room = listable store room e in
     let a : AllGood store = all-good store (l .good) in
     let n : Listable (map normalForm store) room =
-        record {
-          lines = length-map store normalForm ∙ l .lines;
-          wide = l .wide;
-          good = no-bad (map normalForm store) (normals-good store a);
-          fits = rw (same-listing store) (l .fits);
-        } in
+    record {
+      lines = length-map store normalForm ∙ l .lines;
+      wide = l .wide;
+      good = no-bad (map normalForm store) (normals-good store a);
+      fits = rw (same-listing store) (l .fits);
+    } in
     record {
       normal = λ other h. rw (text-is store room l) (listing-back store other (l .lines) a h);
       again = text-is (map normalForm store) room n ∙ same-listing store ∙ sym (text-is store room l);

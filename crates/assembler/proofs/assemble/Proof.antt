@@ -99,7 +99,7 @@ returns-4 c =
     let t = now (s .args .text) in
     by-lines t (now (s .args .store)) (laid (l .words)) (c .before .before .before .before .before .before .before .before .if1 .left) (c .before .before .before .before .before .before .before .if2 .left)
     (sym (l .inv .3) ∙ filled-done t (l .words) (l .k) (l .at) (c .before .before .before .before .before .loop-test .left))
-    ∙ ap (λ (ws : List ℕ). record { answer = Done; store = ws }) (sym (c .before .before .copy-words .ensures))
+    ∙ ap (λ (ws : List ℕ). record { answer = 0; store = ws }) (sym (c .before .before .copy-words .ensures))
 
 pub assemble-spec : {M : Type 1} → statement M
 assemble-spec =

@@ -1,0 +1,18 @@
+-- `load` reads, then sets AC.
+use borrow.Author.Needs.{needs}
+use Rattle.interpreter.specs.Instruction.{gains, sets}
+use Rattle.interpreter.proofs.load.Statement.{statement}
+use Rattle.interpreter.proofs.load.Tie as tie
+
+word-at-requires : tie.Need-word-at-requires
+word-at-requires c κs = search needs
+
+set-requires : tie.Need-set-requires
+set-requires c κs = search needs
+
+returns : tie.Need-returns
+unfolding gains sets
+returns c = simp (c .before .before .before .word-at .ensures, c .set .ensures)
+
+pub load-spec : {M : Type 1} → statement M
+load-spec = tie.close (tie.spec word-at-requires set-requires returns)

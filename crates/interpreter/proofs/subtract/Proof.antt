@@ -1,0 +1,21 @@
+-- `subtract` reads, then sets AC to the difference.
+use borrow.Author.Needs.{needs}
+use Rattle.interpreter.specs.Instruction.{gains, sets}
+use Rattle.interpreter.proofs.subtract.Statement.{statement}
+use Rattle.interpreter.proofs.subtract.Tie as tie
+
+word-at-requires : tie.Need-word-at-requires
+word-at-requires c κs = search needs
+
+subtract-requires : tie.Need-subtract-requires
+subtract-requires c κs = search needs
+
+set-requires : tie.Need-set-requires
+set-requires c κs = search needs
+
+returns : tie.Need-returns
+unfolding gains sets
+returns c = simp (c .before .before .before .before .word-at .ensures, c .before .subtract .ensures, c .set .ensures)
+
+pub subtract-spec : {M : Type 1} → statement M
+subtract-spec = tie.close (tie.spec word-at-requires subtract-requires set-requires returns)

@@ -1,0 +1,4 @@
+pub mod Instruction
+pub mod Run
+pub mod Handed
+pub mod Writes
