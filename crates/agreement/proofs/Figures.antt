@@ -1,16 +1,25 @@
 -- Every figure of 01's list marked P holds, by computing.
 use mathlib.Core.Path.{_≡_, refl}
-use mathlib.Core.List.{map}
+use mathlib.Core.List.{[], _∷_, map}
 use Rattle.word.specs.Number.{joined}
 use Rattle.bus.specs.Ports.{nextInput, readAt, goes, logged, sent, writeAt}
-use Rattle.microword.specs.Microword.{wordOf}
+use Rattle.datapath.specs.Result.{alu, both, keeps, jumps as branches}
+use Rattle.datapath.specs.Transfer.{waits, completedRead, completedWrite, reads, writes as sending, transferred}
+use Rattle.microword.specs.Microword.{fieldsOf, wordOf}
+use Rattle.engine.specs.Cycle.{result, stored, transfer, target, nextLine, driven, settled as left, cycle}
+use Rattle.engine.specs.Run.{plus, onwards, cycles}
+use Rattle.printed.specs.Printed.{printed}
 use Rattle.microtext.specs.Text.{bytes, same}
 use Rattle.microtext.specs.Tokens.{every, oneToken, begun, under, ended, going, tokensAfter}
 use Rattle.microtext.specs.Grammar.{place, register, destination, number, operation, formula, last, front, bare, jump, test, part}
 use Rattle.microtext.specs.Line.{cut, divided, lastPart, parts, someForeign, add, given, clash, settled, meaning, behindNumber, numbered, line}
 use Rattle.interpreter.specs.Instruction.{sets, writes, gains, jumps, action, fetched, past, acted, instruct}
-use Rattle.agreement.specs.Figures.{Figure, figures}
+use Rattle.agreement.specs.Figures.{Figure, figures, stop}
 
 pub figures-hold : map (λ (f : Figure). f .given) figures ≡ map (λ (f : Figure). f .said) figures
 unfolding figures line numbered behindNumber meaning settled clash given add someForeign parts lastPart divided cut part test jump bare front last formula operation number destination register place tokensAfter going ended under begun oneToken every same wordOf joined instruct acted past fetched action gains jumps writes sets writeAt sent goes logged readAt nextInput
 figures-hold = refl
+
+pub stop-holds : stop ≡ 15 ∷ 11 ∷ 2 ∷ 5 ∷ 5 ∷ []
+unfolding stop cycles onwards plus cycle left driven transfer transferred waits completedRead completedWrite reads sending stored result target nextLine branches alu both keeps fieldsOf printed writeAt sent goes logged readAt nextInput
+stop-holds = refl

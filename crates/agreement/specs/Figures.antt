@@ -6,6 +6,10 @@ use Rattle.microtext.specs.Text.{bytes}
 use Rattle.microtext.specs.Line.{line}
 use Rattle.microtext.specs.declared.Meaning.{Meaning}
 use Rattle.microtext.specs.declared.Meaning.the-variants.{Word, Refused}
+use Rattle.datapath.specs.declared.Half.the-variants.{Nothing}
+use Rattle.engine.specs.Cycle.{State, register}
+use Rattle.engine.specs.Run.{Ended, cycles}
+use Rattle.printed.specs.Printed.{printed}
 use Rattle.interpreter.specs.Instruction.{State as Cpu, Act, instruct}
 
 pub record Figure : Type 0 where
@@ -48,3 +52,20 @@ figures =
     -- CALL as the word at 4091 with PP 100 stores 4092 at word 99.
     ∷ (getD (after 4091 100 0 40967 .memory) 99 0 ∷ after 4091 100 0 40967 .cp ∷ [] gives (4092 ∷ 7 ∷ []))
     ∷ []
+
+-- LOCO 5, STOR 4094 with a log of length 0, on the engine: the cycles done, CMP, CP, AC and the answer after a run of 100.
+abbrev pub weighed : Ended
+weighed =
+    cycles printed [] 100
+    (record {
+      line = 0;
+      registers = 0 ∷ 0 ∷ 0 ∷ 0 ∷ 0 ∷ 4095 ∷ 0 ∷ 0 ∷ [];
+      half = Nothing;
+      place = 0;
+      count = 0;
+      memory = 36869 ∷ 8190 ∷ [];
+      log = [];
+    })
+
+unfoldable pub stop : List ℕ
+stop = weighed .done ∷ weighed .state .line ∷ register 0 (weighed .state) ∷ register 1 (weighed .state) ∷ weighed .said .number ∷ []

@@ -1,7 +1,7 @@
 -- Laws of a cycle and of a run: what a refused cycle leaves, how a run goes on, stops and ends, and no second answer.
 use Prim.Native.Nat.{ℕ, zero, suc, _+_, _-_, _<_, _≤_}
 use mathlib.Core.Path.{_≡_, refl, sym, _∙_, ap}
-use mathlib.Core.Bool.{Bool, true, false, cond, true≢false}
+use mathlib.Core.Bool.{Bool, true, false, cond, not, _&&_, true≢false}
 use mathlib.Core.List.{List}
 use mathlib.Core.Logic.{_⊎_, inl, inr, ⊎-elim}
 use native.Mathlib.Nat.{add-zero, zero-add, add-assoc}
@@ -11,8 +11,9 @@ use lib.Seq.{set-set, set-getD}
 use lib.Dec.{ltb, eqb}
 use Rattle.datapath.specs.declared.Moved.{Moved}
 use Rattle.datapath.specs.declared.Half.{Half}
+use Rattle.datapath.specs.declared.Half.the-variants.{Nothing}
 use Rattle.datapath.specs.Result.{keeps}
-use Rattle.datapath.specs.Transfer.{Found, Transfer, moved, transferred, leftIn}
+use Rattle.datapath.specs.Transfer.{Found, Transfer, moved, waits, transferred, leftIn}
 use Rattle.datapath.proofs.Laws.{transfer-refused, rdm-stays}
 use Rattle.bus.specs.Ports.{Left}
 use Rattle.microword.specs.declared.Fields.{Fields}
@@ -65,6 +66,29 @@ module _ {store input : List ℕ} {core : Core} {registers memory log : List ℕ
       let e : leftIn (moved r memory₂ log₂) ≡ record { memory = memory; log = log; count = core .count; full = true } =
       rw (t .moves) at (transfer-refused (eqb (m .rd) 1) (eqb (m .wr) 1) input (core .half) _ (ap (λ (x : Transfer). x .full) (t .moves) ∙ f)) in
       rw (is-driven, f, t .kept, restored m value registers _ refl, ap (λ (x : Left). x .memory) e, ap (λ (x : Left). x .log) e)
+
+-- What the code did where there is neither RD nor WR.
+pub record Rested (store : List ℕ) (core : Core) (registers : List ℕ) (m : Fields) (value : ℕ) (registers₁ : List ℕ) (line : Line) : Type 0 where
+  pub fields : m ≡ fieldsOf (controlWord store (core .line .0))
+  pub computed : value ≡ result m registers
+  pub kept : registers₁ ≡ stored m value registers
+  pub neither : (not (eqb (m .rd) 1) && not (eqb (m .wr) 1)) ≡ true
+  pub next : line .0 ≡ nextLine m value (core .line .0)
+
+-- Nothing is transferred, and RDM is what stands there.
+pub rests : {store : List ℕ} {core : Core} {registers : List ℕ} {m : Fields} {value : ℕ} {registers₁ : List ℕ} {line : Line} (input memory log : List ℕ)
+    → Rested store core registers m value registers₁ line
+    → cycle store input (joined core registers memory log)
+    ≡ stepped (record { core = record { line = line; half = Nothing; place = core .place; count = core .count }; full = false }) registers₁ memory log
+unfolding cycle settled driven transfer transferred waits
+rests {m = m} {registers₁ = registers₁} input memory log r =
+    let n : (eqb (m .rd) 1 ≡ false) × (eqb (m .wr) 1 ≡ false) = both (eqb (m .rd) 1) (eqb (m .wr) 1) (r .neither) in
+    rw (← r .fields, ← r .computed, ← r .kept, n .0, n .1, set-getD registers₁ 7 0, r .next)
+  where
+    both : (a b : Bool) → (not a && not b) ≡ true → (a ≡ false) × (b ≡ false)
+    both true b e = absurd (true≢false (sym e))
+    both false true e = absurd (true≢false (sym e))
+    both false false e = (refl, refl)
 
 -- Nothing more.
 pub plus-none : (e : Ended) → plus 0 e ≡ e

@@ -1,11 +1,11 @@
 // The cycle engine for any control store: one cycle, a run, and the panel's press.
 ghost use mathlib.Core.Path.{_≡_};
-ghost use mathlib.Core.Bool.{cond};
+ghost use mathlib.Core.Bool.{cond, false};
 ghost use lib.Dec.{eqb};
 ghost use lib.ListN.{set};
-ghost use Rattle.microword.specs.Microword.{fieldsOf};
 ghost use Rattle.engine.specs.Cycle.{controlWord, result, stored, nextLine, cycle};
 ghost use Rattle.engine.specs.Run.{refusal, saying, cycles, runs, press, stateOf, endedBy, pressedBy};
+ghost use Rattle.datapath.specs.declared.Half.the-variants.{Nothing};
 ghost use Rattle.engine.specs.Core.{joined, stepped, machineOf};
 ghost use Prim.Native.Nat.{_<_};
 use datapath::Half;
@@ -98,6 +98,21 @@ fn arrive(rd: u32, word: u16, registers: &mut [u16; 8])
     }
 }
 
+// A cycle with neither RD nor WR leaves nothing half done.
+fn rest(line: Line, place: usize, count: usize) -> Stepped
+    ensures { λ r. ⌜ r ≡ record { core = record { line = line; half = Nothing; place = place; count = count }; full = false } ⌝ }
+{
+    Stepped {
+        core: Core {
+            line,
+            half: Half::Nothing,
+            place,
+            count,
+        },
+        full: false,
+    }
+}
+
 // One cycle, in place; a refused one leaves everything as it was.
 fn step(
     store: &[u32],
@@ -114,8 +129,12 @@ fn step(
     let b = m.b as usize;
     let s = m.s as usize;
     let value = datapath::compute(m.f, registers[a], registers[b]);
+    let line = next_line(m, value, core.line);
     let old = registers[s];
     store_value(m, value, registers);
+    if (m.rd != 1) & (m.wr != 1) {
+        return rest(line, core.place, core.count);
+    }
     let half = core.half;
     let moved = datapath::transfer(
         m.rd == 1,
@@ -134,7 +153,6 @@ fn step(
         return Stepped { core, full: true };
     }
     arrive(m.rd, moved.rdm, registers);
-    let line = next_line(m, value, core.line);
     let half = moved.half;
     Stepped {
         core: Core {

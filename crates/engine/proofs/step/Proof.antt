@@ -1,9 +1,10 @@
--- `step`: what the code did up to the transfer is what the control word drives; a refused cycle puts back what stood in S.
+-- `step`: what the code did is what the control word drives; without RD and WR nothing is transferred, and a refused cycle puts back
+-- what stood in S.
 use Prim.Native.Nat.{ℕ}
 use mathlib.Core.Path.{_≡_, _∙_, ap}
 use borrow.Author.Needs.{needs}
 use Rattle.microword.specs.Microword.{fieldsOf}
-use Rattle.engine.proofs.Laws.{carried, refused}
+use Rattle.engine.proofs.Laws.{carried, refused, rests}
 use Rattle.microword.proofs.Laws.{Within, fields-within}
 use Rattle.microword.specs.declared.Fields.{Fields}
 use Rattle.engine.specs.Cycle.{result}
@@ -43,14 +44,24 @@ element-copy-out-compute-2 c = within _ (c .before .before .before .before .fiel
 compute-requires : tie.Need-compute-requires
 compute-requires c κs = search needs
 
+next-line-requires : tie.Need-next-line-requires
+next-line-requires c κs = within _ (c .before .before .before .before .before .before .fields-of .ensures) .end
+
 mul-old : tie.Need-mul-old
 mul-old c = search needs
 
 element-copy-out-old : tie.Need-element-copy-out-old
-element-copy-out-old c = within _ (c .before .before .before .before .before .before .fields-of .ensures) .s
+element-copy-out-old c = within _ (c .before .before .before .before .before .before .before .fields-of .ensures) .s
 
 store-value-requires : tie.Need-store-value-requires
-store-value-requires c κs = within _ (c .before .before .before .before .before .before .before .before .fields-of .ensures) .s
+store-value-requires c κs = within _ (c .before .before .before .before .before .before .before .before .before .fields-of .ensures) .s
+
+rest-requires : tie.Need-rest-requires
+rest-requires c κs = search needs
+
+returns : tie.Need-returns
+unfolding result
+returns c = rw (c .rest .ensures) (rests _ _ _ (record { fields = c .before .before .before .before .before .before .before .before .before .before .before .before .before .before .fields-of .ensures ∙ ap fieldsOf (c .before .before .before .before .before .before .before .before .before .before .before .before .before .before .before .control-word .ensures); computed = c .before .before .before .before .before .before .before .before .compute .ensures; kept = c .before .before .before .before .store-value .ensures; neither = c .before .if1 .taken; next = c .before .before .before .before .before .before .before .next-line .ensures }))
 
 element-copy-out-t21 : tie.Need-element-copy-out-t21
 element-copy-out-t21 c = search needs
@@ -65,7 +76,7 @@ mul-registers : tie.Need-mul-registers
 mul-registers c = search needs
 
 element-write-registers : tie.Need-element-write-registers
-element-write-registers c = within _ (c .before .before .before .before .before .before .before .before .before .before .before .before .before .before .before .before .before .before .before .before .before .fields-of .ensures) .s
+element-write-registers c = within _ (c .before .before .before .before .before .before .before .before .before .before .before .before .before .before .before .before .before .before .before .before .before .before .before .before .before .fields-of .ensures) .s
 
 same-length : tie.Need-same-length
 same-length c = search needs
@@ -73,15 +84,12 @@ same-length c = search needs
 same-length-2 : tie.Need-same-length-2
 same-length-2 c = search needs
 
-returns : tie.Need-returns
+returns-2 : tie.Need-returns-2
 unfolding result
-returns c = refused (record { fields = c .before .before .before .before .before .before .before .before .before .before .before .before .before .before .before .before .before .before .before .before .before .fields-of .ensures ∙ ap fieldsOf (c .before .before .before .before .before .before .before .before .before .before .before .before .before .before .before .before .before .before .before .before .before .before .control-word .ensures); computed = c .before .before .before .before .before .before .before .before .before .before .before .before .before .before .before .compute .ensures; kept = c .before .before .before .before .before .before .before .before .before .before .before .before .store-value .ensures; moves = c .before .before .before .before .before .transfer .ensures }) (c .if1 .taken)
+returns-2 c = refused (record { fields = c .before .before .before .before .before .before .before .before .before .before .before .before .before .before .before .before .before .before .before .before .before .before .before .before .before .fields-of .ensures ∙ ap fieldsOf (c .before .before .before .before .before .before .before .before .before .before .before .before .before .before .before .before .before .before .before .before .before .before .before .before .before .before .control-word .ensures); computed = c .before .before .before .before .before .before .before .before .before .before .before .before .before .before .before .before .before .before .before .compute .ensures; kept = c .before .before .before .before .before .before .before .before .before .before .before .before .before .before .before .store-value .ensures; moves = c .before .before .before .before .before .transfer .ensures }) (c .if2 .taken)
 
 arrive-requires : tie.Need-arrive-requires
 arrive-requires c κs = search needs
-
-next-line-requires : tie.Need-next-line-requires
-next-line-requires c κs = within _ (c .before .before .before .before .before .before .before .before .before .before .before .before .before .before .before .before .before .before .before .before .before .before .before .fields-of .ensures) .end
 
 same-length-3 : tie.Need-same-length-3
 same-length-3 c = search needs
@@ -89,9 +97,9 @@ same-length-3 c = search needs
 same-length-4 : tie.Need-same-length-4
 same-length-4 c = search needs
 
-returns-2 : tie.Need-returns-2
+returns-3 : tie.Need-returns-3
 unfolding result
-returns-2 c = rw (c .before .arrive .ensures) (carried (record { fields = c .before .before .before .before .before .before .before .before .before .before .before .before .before .before .before .before .before .before .before .before .before .before .before .before .fields-of .ensures ∙ ap fieldsOf (c .before .before .before .before .before .before .before .before .before .before .before .before .before .before .before .before .before .before .before .before .before .before .before .before .before .control-word .ensures); computed = c .before .before .before .before .before .before .before .before .before .before .before .before .before .before .before .before .before .before .compute .ensures; kept = c .before .before .before .before .before .before .before .before .before .before .before .before .before .before .before .store-value .ensures; moves = c .before .before .before .before .before .before .before .before .transfer .ensures }) (c .before .before .before .if1 .left) (c .next-line .ensures))
+returns-3 c = rw (c .arrive .ensures) (carried (record { fields = c .before .before .before .before .before .before .before .before .before .before .before .before .before .before .before .before .before .before .before .before .before .before .before .before .before .before .before .fields-of .ensures ∙ ap fieldsOf (c .before .before .before .before .before .before .before .before .before .before .before .before .before .before .before .before .before .before .before .before .before .before .before .before .before .before .before .before .control-word .ensures); computed = c .before .before .before .before .before .before .before .before .before .before .before .before .before .before .before .before .before .before .before .before .before .compute .ensures; kept = c .before .before .before .before .before .before .before .before .before .before .before .before .before .before .before .before .before .store-value .ensures; moves = c .before .before .before .before .before .before .before .transfer .ensures }) (c .before .before .if2 .left) (c .before .before .before .before .before .before .before .before .before .before .before .before .before .before .before .before .before .before .before .before .next-line .ensures))
 
 pub step-spec : {M : Type 1} → statement M
 step-spec =
@@ -107,9 +115,12 @@ step-spec =
     mul-compute-2
     element-copy-out-compute-2
     compute-requires
+    next-line-requires
     mul-old
     element-copy-out-old
     store-value-requires
+    rest-requires
+    returns
     element-copy-out-t21
     element-copy-out-transfer
     transfer-requires
@@ -117,9 +128,8 @@ step-spec =
     element-write-registers
     same-length
     same-length-2
-    returns
+    returns-2
     arrive-requires
-    next-line-requires
     same-length-3
     same-length-4
-    returns-2)
+    returns-3)
