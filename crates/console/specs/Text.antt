@@ -1,0 +1,63 @@
+-- What the two programs print (01, Micro text and images, the last two paragraphs): numbers, signed words, answer lines, the report of a run.
+use Prim.Native.Nat.{ℕ, zero, suc, _+_, _-_, _/_, _%_}
+use Prim.Native.String.{String}
+use mathlib.Core.Bool.{cond}
+use mathlib.Core.List.{List, [], _∷_, _++_}
+use lib.Dec.{ltb}
+use lib.ListN.{length, take, drop}
+use Rattle.microtext.specs.Text.{bytes}
+use Rattle.console.specs.declared.Run.{Run}
+
+-- The last digits of a number, at most `most`, with no leading zero; byte 48 is the digit 0.
+unfoldable pub digits : ℕ → ℕ → List ℕ
+digits zero n = []
+digits (suc most) n = cond (ltb n 10) [] (digits most (n / 10)) ++ (48 + n % 10) ∷ []
+
+-- A number in decimal: 20 digits are enough for one of 64 bits.
+abbrev pub decimal : ℕ → List ℕ
+decimal n = digits 20 n
+
+-- A word signed from -32768 to 32767.
+unfoldable pub signed : ℕ → List ℕ
+signed word = cond (ltb word 32768) (decimal word) (bytes "-" ++ decimal (65536 - word))
+
+-- A field: its label and its number.
+abbrev pub labelled : String → ℕ → List ℕ
+labelled label n = bytes label ++ decimal n
+
+-- `answer` and the number.
+unfoldable pub refusal : ℕ → List ℕ
+refusal answer = labelled "answer " answer ++ 10 ∷ []
+
+-- A bad word prints `answer 4 line` and its line.
+unfoldable pub badWord : ℕ → List ℕ
+badWord line = labelled "answer 4 line " line ++ 10 ∷ []
+
+-- Fields: answer number, instructions done, table cycles, registers, log count.
+unfoldable pub counts : Run → List ℕ
+counts r = labelled "answer " (r .answer) ++ labelled " done " (r .done) ++ labelled " cycles " (r .cycles)
+
+unfoldable pub registers : Run → List ℕ
+registers r = labelled " cp " (r .cp .0) ++ labelled " pp " (r .pp .0) ++ bytes " ac " ++ signed (r .ac)
+
+unfoldable pub line : Run → List ℕ
+line r = counts r ++ registers r ++ labelled " log " (r .count) ++ 10 ∷ []
+
+-- Each word on a line.
+unfoldable pub lines : List ℕ → List ℕ
+lines [] = []
+lines (word ∷ words) = signed word ++ 10 ∷ lines words
+
+-- One line, then each log word on a line: of the log's room as many words as its count says.
+unfoldable pub report : Run → List ℕ → List ℕ
+report r log = line r ++ lines (take (r .count) log)
+
+-- What is left of showing a text: its length, and the room.
+pub record Shown : Type 0 where
+  pub length : ℕ
+  pub room : List ℕ
+
+-- A room of 512 bytes or more has the text at its front and is as found past it; a smaller one is as found.
+unfoldable pub shown : List ℕ → List ℕ → Shown
+shown text room =
+    cond (ltb (length room) 512) (record { length = 0; room = room }) (record { length = length text; room = text ++ drop (length text) room })

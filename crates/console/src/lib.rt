@@ -1,0 +1,211 @@
+// What the two programs share: standard input read to its end, the texts that they print as bytes in a lent room, and standard output.
+ghost use mathlib.Core.Path.{_≡_};
+ghost use mathlib.Core.List.{[], _∷_, _++_};
+ghost use Prim.Native.Nat.{_+_, _*_, _≤_};
+ghost use lib.ListN.{length};
+ghost use Rattle.lister.specs.Pieces.{Wrote};
+ghost use Rattle.console.specs.Text.{decimal, signed, counts, registers, line, lines, refusal as Text·refusal, badWord, report as Text·report, shown};
+ghost use Rattle.console.specs.Input.{Held};
+use word::Address;
+use word::Line;
+
+// The room that every text fits into.
+const ROOM: usize = 512;
+
+// What came of reading: how many bytes stand at the front of the buffer, or that a read failed.
+pub enum Input {
+    Read(usize),
+    Failed,
+}
+
+// What the report of a run tells beside the log's words.
+pub struct Run {
+    pub answer: u32,
+    pub done: u32,
+    pub cycles: u64,
+    pub cp: Address,
+    pub pp: Address,
+    pub ac: u16,
+    pub count: usize,
+}
+
+// One read of standard input; no bytes are its end.
+fn read_some(part: &mut [u8]) -> Input
+    ensures { λ r. ⌜ Held r (now (part .exit)) ⌝ }
+{
+    let got = libc::read(libc::STDIN_FILENO, part);
+    if got < 0 {
+        return Input::Failed;
+    }
+    Input::Read(io::count(got, part))
+}
+
+// Standard input up to its end, or as much of it as the buffer holds. A read that fails is not the end.
+pub fn read_all(buffer: &mut [u8]) -> Input
+    ensures { λ r. ⌜ Held r (now (buffer .exit)) ⌝ }
+{
+    let mut done: usize = 0;
+    while done < buffer.len() {
+        let piece = read_some(&mut buffer[done..]);
+        let Input::Read(more) = piece else {
+            return Input::Failed;
+        };
+        if more == 0 {
+            return Input::Read(done);
+        }
+        done += more;
+    }
+    Input::Read(done)
+}
+
+// Writes a text to standard output and closes it, since some systems say only then that bytes were lost. Whether both went well.
+pub fn write_out(text: &[u8]) -> bool {
+    if !io::write_all(libc::STDOUT_FILENO, text) {
+        return false;
+    }
+    libc::close(libc::STDOUT_FILENO) == 0
+}
+
+// Stores `text` from `at` on, and answers the place behind it.
+fn put(room: &mut [u8], at: usize, text: &[u8]) -> usize
+    requires { ⌜ at + length (now text) ≤ length (now room) ⌝ }
+    ensures { λ r. ⌜ Wrote (now (room .entry)) at (now (text .entry)) (now (room .exit)) r ⌝ }
+{
+    let mut i: usize = 0;
+    while i < text.len() {
+        room[at + i] = text[i];
+        i += 1;
+    }
+    at + i
+}
+
+// A number in decimal, of at most 20 digits.
+fn put_decimal(room: &mut [u8], at: usize, n: u64) -> usize
+    requires { ⌜ at + 20 ≤ length (now room) ⌝ }
+    ensures { λ r. ⌜ Wrote (now (room .entry)) at (decimal n) (now (room .exit)) r ⌝ }
+    ensures { λ r. ⌜ r ≤ at + 20 ⌝ }
+{
+    let mut digits = [0u8; 20];
+    let k = io::decimal(n, &mut digits);
+    put(room, at, &digits[..k])
+}
+
+// A label and a number.
+fn put_labelled(room: &mut [u8], at: usize, label: &[u8], n: u64) -> usize
+    requires { ⌜ at + length (now label) + 20 ≤ length (now room) ⌝ }
+    ensures { λ r. ⌜ Wrote (now (room .entry)) at (now (label .entry) ++ decimal n) (now (room .exit)) r ⌝ }
+    ensures { λ r. ⌜ r ≤ at + length (now (label .entry)) + 20 ⌝ }
+{
+    let number = put(room, at, label);
+    put_decimal(room, number, n)
+}
+
+// A word as a signed number.
+fn put_signed(room: &mut [u8], at: usize, word: u16) -> usize
+    requires { ⌜ at + 21 ≤ length (now room) ⌝ }
+    ensures { λ r. ⌜ Wrote (now (room .entry)) at (signed word) (now (room .exit)) r ⌝ }
+    ensures { λ r. ⌜ r ≤ at + 21 ⌝ }
+{
+    if word < 32768 {
+        return put_decimal(room, at, word as u64);
+    }
+    put_labelled(room, at, b"-", 65536 - word as u64)
+}
+
+// The answer, the instructions done and the table's cycles, from the start of the room.
+fn put_counts(room: &mut [u8], run: Run) -> usize
+    requires { ⌜ 81 ≤ length (now room) ⌝ }
+    ensures { λ r. ⌜ Wrote (now (room .entry)) 0 (counts run) (now (room .exit)) r ⌝ }
+    ensures { λ r. ⌜ r ≤ 81 ⌝ }
+{
+    let done = put_labelled(room, 0, b"answer ", run.answer as u64);
+    let cycles = put_labelled(room, done, b" done ", run.done as u64);
+    put_labelled(room, cycles, b" cycles ", run.cycles)
+}
+
+// The registers.
+fn put_registers(room: &mut [u8], at: usize, run: Run) -> usize
+    requires { ⌜ at + 73 ≤ length (now room) ⌝ }
+    ensures { λ r. ⌜ Wrote (now (room .entry)) at (registers run) (now (room .exit)) r ⌝ }
+    ensures { λ r. ⌜ r ≤ at + 73 ⌝ }
+{
+    let pp = put_labelled(room, at, b" cp ", run.cp.0 as u64);
+    let ac = put_labelled(room, pp, b" pp ", run.pp.0 as u64);
+    let value = put(room, ac, b" ac ");
+    put_signed(room, value, run.ac)
+}
+
+// The report's first line, from the start of the room.
+fn put_line(room: &mut [u8], run: Run) -> usize
+    requires { ⌜ 180 ≤ length (now room) ⌝ }
+    ensures { λ r. ⌜ Wrote (now (room .entry)) 0 (line run) (now (room .exit)) r ⌝ }
+    ensures { λ r. ⌜ r ≤ 180 ⌝ }
+{
+    let cp = put_counts(room, run);
+    let log = put_registers(room, cp, run);
+    let end = put_labelled(room, log, b" log ", run.count as u64);
+    put(room, end, b"\n")
+}
+
+// A word on a line.
+fn put_word(room: &mut [u8], at: usize, word: u16) -> usize
+    requires { ⌜ at + 22 ≤ length (now room) ⌝ }
+    ensures { λ r. ⌜ Wrote (now (room .entry)) at (lines (word ∷ [])) (now (room .exit)) r ⌝ }
+    ensures { λ r. ⌜ r ≤ at + 22 ⌝ }
+{
+    let end = put_signed(room, at, word);
+    put(room, end, b"\n")
+}
+
+// Each word on a line.
+fn put_words(room: &mut [u8], from: usize, words: &[u16]) -> usize
+    requires { ⌜ from + 22 * length (now words) ≤ length (now room) ⌝ }
+    ensures { λ r. ⌜ Wrote (now (room .entry)) from (lines (now (words .entry))) (now (room .exit)) r ⌝ }
+    ensures { λ r. ⌜ r ≤ from + 22 * length (now (words .entry)) ⌝ }
+{
+    let mut at = from;
+    let mut i: usize = 0;
+    while i < words.len() {
+        at = put_word(room, at, words[i]);
+        i += 1;
+    }
+    at
+}
+
+// The line of a refusal.
+pub fn refusal(answer: u32, room: &mut [u8]) -> usize
+    ensures { λ r. ⌜ shown (Text·refusal answer) (now (room .entry)) ≡ record { length = r; room = now (room .exit) } ⌝ }
+{
+    if room.len() < ROOM {
+        return 0;
+    }
+    let end = put_labelled(room, 0, b"answer ", answer as u64);
+    put(room, end, b"\n")
+}
+
+// The line that names a bad word's line.
+pub fn bad_word(line: Line, room: &mut [u8]) -> usize
+    ensures { λ r. ⌜ shown (badWord (line .0)) (now (room .entry)) ≡ record { length = r; room = now (room .exit) } ⌝ }
+{
+    if room.len() < ROOM {
+        return 0;
+    }
+    let end = put_labelled(room, 0, b"answer 4 line ", line.0 as u64);
+    put(room, end, b"\n")
+}
+
+// The report of a run: its line, then each log word on a line.
+pub fn report(run: Run, log: &[u16; 8], room: &mut [u8]) -> usize
+    ensures { λ r. ⌜ shown (Text·report run (now (log .entry))) (now (room .entry)) ≡ record { length = r; room = now (room .exit) } ⌝ }
+{
+    if room.len() < ROOM {
+        return 0;
+    }
+    let at = put_line(room, run);
+    let words: &[u16] = log;
+    let count = run.count;
+    if count < 8 {
+        return put_words(room, at, &words[..count]);
+    }
+    put_words(room, at, words)
+}

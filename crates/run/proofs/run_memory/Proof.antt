@@ -1,0 +1,46 @@
+-- `run_memory` reports what the interpreter's run comes to.
+use mathlib.Core.Path.{sym, ap, _∙_}
+use borrow.Author.Needs.{needs}
+use Rattle.run.specs.Report.{reported, ran}
+use Rattle.console.proofs.Laws.{front}
+use Rattle.run.proofs.run_memory.Statement.{statement}
+use Rattle.run.proofs.run_memory.Tie as tie
+
+slice-aggregate-run : tie.Need-slice-aggregate-run
+slice-aggregate-run c = search needs
+
+slice-aggregate-run-2 : tie.Need-slice-aggregate-run-2
+slice-aggregate-run-2 c = search needs
+
+run-requires : tie.Need-run-requires
+run-requires c κs = search needs
+
+number-of-run-requires : tie.Need-number-of-run-requires
+number-of-run-requires c κs = search needs
+
+report-requires : tie.Need-report-requires
+report-requires c κs = search needs
+
+same-length : tie.Need-same-length
+same-length c = search needs
+
+same-length-2 : tie.Need-same-length-2
+same-length-2 c = search needs
+
+returns : tie.Need-returns
+unfolding ran
+returns c = let shown = front _ _ _ _ (c .before .before .before .before .before .before .before .before .before .before .before .before .before .before .before .before .before .before .pre) (c .before .before .report .ensures) in
+    ((rw (c .before .before .before .before .before .number-of-run .ensures) at (shown .stands)) ∙ sym (ap reported (c .before .before .before .before .before .before .before .before .before .before .before .before .run .ensures)), shown .counted)
+
+pub run-memory-spec : {M : Type 1} → statement M
+run-memory-spec =
+    tie.close
+    (tie.spec
+    slice-aggregate-run
+    slice-aggregate-run-2
+    run-requires
+    number-of-run-requires
+    report-requires
+    same-length
+    same-length-2
+    returns)

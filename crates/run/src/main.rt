@@ -1,0 +1,108 @@
+// The run program: an image on standard input, the report of 1,000 instructions on standard output, or the answer line.
+ghost use mathlib.Core.Path.{_≡_};
+ghost use Prim.Native.Nat.{_≤_};
+ghost use lib.ListN.{length as Lib·length, take};
+ghost use Rattle.io.specs.Counts.{Counts};
+ghost use Rattle.image.specs.Answers.{number as Image·number};
+ghost use Rattle.interpreter.specs.Run.{number as Run·number};
+ghost use Rattle.run.specs.Report.{ran, printed};
+use console::Input;
+use console::Run;
+use interpreter::Cpu;
+use word::Address;
+
+// The bytes of the longest image.
+const LONGEST: usize = 16368;
+
+// The number of the image reader's answer.
+fn number_of_reading(answer: image::Answer) -> u32
+    ensures { λ r. ⌜ r ≡ Image·number answer ⌝ }
+{
+    match answer {
+        image::Answer::Done => 0,
+        image::Answer::MemorySize => 1,
+        image::Answer::ImageLength => 20,
+        image::Answer::AddressTooHigh => 21,
+        image::Answer::AddressNotAbove => 22,
+        image::Answer::ValueZero => 23,
+        image::Answer::RoomTooSmall => 24,
+    }
+}
+
+// The number of the interpreter's answer.
+fn number_of_run(answer: interpreter::Answer) -> u32
+    ensures { λ r. ⌜ r ≡ Run·number answer ⌝ }
+{
+    match answer {
+        interpreter::Answer::Done => 0,
+        interpreter::Answer::Sizes => 1,
+        interpreter::Answer::Places => 2,
+        interpreter::Answer::Ranges => 3,
+        interpreter::Answer::LogFull => 5,
+    }
+}
+
+// The report of a memory's run, at the front of the room.
+fn run_memory(memory: &mut [u16], room: &mut [u8]) -> usize
+    requires { ⌜ 512 ≤ Lib·length (now room) ⌝ }
+    ensures { λ r. ⌜ take r (now (room .exit)) ≡ ran (now (memory .entry)) ⌝ }
+    ensures { λ r. ⌜ Counts r (now (room .exit)) ⌝ }
+{
+    let none = [0u16; 0];
+    let mut log = [0u16; 8];
+    let start = Cpu {
+        cp: Address(0),
+        pp: Address(0),
+        ac: 0,
+        place: 0,
+        count: 0,
+    };
+    let end = interpreter::run(memory, &none, &mut log, start, 1000);
+    let answer = end.answer;
+    let cpu = end.cpu;
+    let cp = cpu.cp;
+    let pp = cpu.pp;
+    let run = Run {
+        answer: number_of_run(answer),
+        done: end.done,
+        cycles: end.cycles,
+        cp,
+        pp,
+        ac: cpu.ac,
+        count: cpu.count,
+    };
+    console::report(run, &log, room)
+}
+
+// The text for an input, at the front of the room.
+fn text(input: &[u8], room: &mut [u8]) -> usize
+    requires { ⌜ 512 ≤ Lib·length (now room) ⌝ }
+    ensures { λ r. ⌜ take r (now (room .exit)) ≡ printed (now (input .entry)) ⌝ }
+    ensures { λ r. ⌜ Counts r (now (room .exit)) ⌝ }
+{
+    if LONGEST < input.len() {
+        return console::refusal(25, room);
+    }
+    let mut memory = [0u16; 4096];
+    let read = image::read(input, &mut memory);
+    let answer = number_of_reading(read);
+    if answer != 0 {
+        return console::refusal(answer, room);
+    }
+    run_memory(&mut memory, room)
+}
+
+// A read that fails runs nothing; output that could not be written is said on standard error.
+fn main() {
+    let mut input = [0u8; 16369];
+    let got = console::read_all(&mut input);
+    let Input::Read(n) = got else {
+        os::fail(b"run: standard input");
+        return;
+    };
+    let mut room = [0u8; 512];
+    let length = text(&input[..n], &mut room);
+    if !console::write_out(&room[..length]) {
+        os::fail(b"run: standard output");
+    }
+}
