@@ -3,20 +3,25 @@ use Prim.Native.Nat.{ℕ, zero, suc, _+_, _-_, _≤_, _<_}
 use mathlib.Core.Path.{_≡_, refl, sym, _∙_, ap}
 use mathlib.Core.Bool.{Bool, true, false, cond, true≢false}
 use mathlib.Core.List.{List, [], _∷_, _++_}
-use native.Mathlib.Nat.{add-zero, zero-add, add-assoc}
+use native.Mathlib.Nat.{add-zero, zero-add, add-assoc, suc-add}
 use native.Mathlib.Decide.{ℕ-discrete}
 use native.Mathlib.Omega.{arith}
-use lib.ListN.{length}
-use lib.Dec.{eqb}
+use lib.ListN.{length, getD, take, drop, length-append}
+use lib.Seq.{take-all}
+use lib.Dec.{ltb, eqb}
 use borrow.Author.Needs.{needs}
-use borrow.Author.Tests.{ne-eqb}
+use borrow.Author.Tests.{ne-eqb, eqb-true, ltb-true}
 use Rattle.word.specs.Number.{field, kept}
-use Rattle.bus.specs.Ports.{Left, writeAt}
-use Rattle.bus.specs.Log.{Sent, after}
+use Rattle.bus.specs.Ports.{Left, goes, sent, logged, writeAt}
+use Rattle.bus.specs.Log.{Sent, after, toLog, room, Took}
 use Rattle.bus.proofs.Laws.{leaves}
+use Rattle.bus.proofs.Laws as bus
 use Rattle.interpreter.specs.Instruction.{State, Act, at, below, above, named, sets, writes, gains, jumps, action, fetched, past, acted, instruct}
-use Rattle.interpreter.specs.Run.{Ended, plus, onwards, instructions}
-use Rattle.interpreter.specs.Writes.{one, sends, foundIn, leftIn}
+use Rattle.interpreter.specs.Run.{Ended, plus, onwards, instructions, number, endedBy}
+use Rattle.interpreter.specs.Writes.{one, sends, completed, completedBy, foundIn, leftIn}
+use Rattle.interpreter.specs.declared.Answer.{Answer}
+use Rattle.interpreter.specs.declared.Answer.the-variants.{Done, Sizes, Places, Ranges, LogFull}
+use Rattle.interpreter.specs.declared.Ran.{Ran}
 
 -- A proof for each number below n.
 infixl 20 _also_
@@ -29,8 +34,8 @@ each none k h = let z : ⊥ = omega arith in absurd z
 each {P} (_also_ {n} ps p) k h = elim (ℕ-discrete k n) [ yes e ↦ rw e p | no d ↦ each ps k (omega arith) ]
 
 -- From the numbers that a code is not, to the least that it can be.
-pub next : (code k : ℕ) → k ≤ code → (code ≡ k → ⊥) → suc k ≤ code
-next code k h d = omega arith
+pub beyond : (code k : ℕ) → k ≤ code → (code ≡ k → ⊥) → suc k ≤ code
+beyond code k h d = omega arith
 
 -- A word's code is below 16.
 code-below : (word : ℕ) → field 12 4 word < 16
@@ -162,3 +167,224 @@ module _ (input : List ℕ) (n done cycles : ℕ) (s : State) where
   pub ends : n ≤ done → plus done cycles (instructions input (n - done) s) ≡ record { state = s; done = done; cycles = cycles; answer = 0 }
   unfolding instructions plus
   ends h = let none-left : n - done ≡ 0 = omega arith in rw (none-left, add-zero, add-zero)
+
+-- No second answer: a run's promise fixes what it hands back and both lent lists. The answer is read back from its number.
+answerOf : ℕ → Answer
+answerOf n = cond (eqb n 0) Done (cond (eqb n 1) Sizes (cond (eqb n 2) Places (cond (eqb n 3) Ranges LogFull)))
+
+read-back : (a : Answer) → answerOf (number a) ≡ a
+unfolding answerOf number
+read-back Done = refl
+read-back Sizes = refl
+read-back Places = refl
+read-back Ranges = refl
+read-back LogFull = refl
+
+ranOf : Ended → Ran
+ranOf e =
+    record {
+      cpu = record {
+        cp = record { 0 = e .state .cp };
+        ac = e .state .ac;
+        pp = record { 0 = e .state .pp };
+        place = e .state .place;
+        count = e .state .count;
+      };
+      done = e .done;
+      cycles = e .cycles;
+      answer = answerOf (e .answer);
+    }
+
+handed : (r : Ran) (memory log : List ℕ) → ranOf (endedBy r memory log) ≡ r
+unfolding ranOf
+handed r memory log = rw (read-back (r .answer))
+
+pub run-only : {e : Ended} {r r′ : Ran} {memory memory′ log log′ : List ℕ} → e ≡ endedBy r memory log → e ≡ endedBy r′ memory′ log′
+    → (r ≡ r′) × (memory ≡ memory′) × (log ≡ log′)
+run-only {e} {r} {r′} {memory} {memory′} {log} {log′} p q =
+    let same : endedBy r memory log ≡ endedBy r′ memory′ log′ = sym p ∙ q in (
+      sym (handed r memory log) ∙ ap ranOf same ∙ handed r′ memory′ log′,
+      ap (λ (x : Ended). x .state .memory) same,
+      ap (λ (x : Ended). x .state .log) same,
+    )
+
+-- A run of a instructions and then of b is one of a + b where no stop comes in the first; a stop ends both alike.
+then : (full : Bool) (a : Act) (first whole : Ended) (rest : State → Ended)
+    → (first .answer ≡ 0 → whole ≡ plus (first .done) (first .cycles) (rest (first .state)))
+    → onwards full a first .answer ≡ 0
+    → onwards full a whole ≡ plus (onwards full a first .done) (onwards full a first .cycles) (rest (onwards full a first .state))
+unfolding onwards plus
+then true a first whole rest next e = let z : ⊥ = omega arith in absurd z
+then false a first whole rest next e = rw (next e, add-assoc, add-assoc)
+
+pub in-two : (input : List ℕ) (a b : ℕ) (s : State) → instructions input a s .answer ≡ 0
+    → instructions input (a + b) s ≡ plus (instructions input a s .done) (instructions input a s .cycles) (instructions input b (instructions input a s .state))
+unfolding instructions
+in-two input zero b s h = rw zero-add (sym (plus-none (instructions input b s)))
+in-two input (suc a) b s h =
+    let next : State = instruct input s .next in
+    rw suc-add
+    (then (instruct input s .full) (instruct input s) (instructions input a next) (instructions input (a + b) next) (instructions input b) (in-two input a b next) h)
+
+pub stopped : (input : List ℕ) (a b : ℕ) (s : State) → instructions input a s .answer ≡ 5 → instructions input (a + b) s ≡ instructions input a s
+unfolding instructions onwards plus
+stopped input zero b s h = let z : ⊥ = omega arith in absurd z
+stopped input (suc a) b s h =
+    let next : State = instruct input s .next in
+    rw suc-add (by (instruct input s .full) (instruct input s) (instructions input a next) (instructions input (a + b) next) (stopped input a b next) h)
+  where
+    by : (full : Bool) (act : Act) (first whole : Ended) → (first .answer ≡ 5 → whole ≡ first) → onwards full act first .answer ≡ 5
+        → onwards full act whole ≡ onwards full act first
+    by true act first whole same e = refl
+    by false act first whole same e = ap (plus 1 (act .cycles)) (same e)
+
+-- A run that answers 0 has carried out all that it was asked for, and one that answers 5 fewer.
+pub record Counted (n : ℕ) (e : Ended) : Type 0 where
+  pub all : e .answer ≡ 0 → e .done ≡ n
+  pub fewer : e .answer ≡ 5 → e .done < n
+
+pub counted : (input : List ℕ) (n : ℕ) (s : State) → Counted n (instructions input n s)
+unfolding instructions onwards plus
+counted input zero s = record { all = λ e. refl; fewer = λ e. omega arith }
+counted input (suc n) s = by (instruct input s .full) (instructions input n (instruct input s .next)) (counted input n (instruct input s .next))
+  where
+    by : (full : Bool) (rest : Ended) → Counted n rest → Counted (suc n) (onwards full (instruct input s) rest)
+    by true rest c = record { all = λ e. omega arith; fewer = λ e. omega arith }
+    by false rest c =
+        record {
+          all = λ e. (let d : rest .done ≡ n = c .all e in omega arith);
+          fewer = λ e. (let d : rest .done < n = c .fewer e in omega arith);
+        }
+
+-- What completed writes come to, one after the other.
+after-append : (ss ss′ : List Sent) (at : Left) → after (ss ++ ss′) at ≡ after ss′ (after ss at)
+unfolding after
+after-append [] ss′ at = refl
+after-append (sent ∷ ss) ss′ at = after-append ss ss′ (writeAt (at .memory) (at .log) (at .count) (sent .address) (sent .word))
+
+toLog-append : (ss ss′ : List Sent) → toLog (ss ++ ss′) ≡ toLog ss ++ toLog ss′
+unfolding toLog
+toLog-append [] ss′ = refl
+toLog-append (sent ∷ ss) ss′ = by (eqb (sent .address) 4094) (sent .word) (toLog ss) (toLog (ss ++ ss′)) (toLog-append ss ss′)
+  where
+    by : (b : Bool) (word : ℕ) (words joint : List ℕ) → joint ≡ words ++ toLog ss′ → cond b (word ∷ joint) joint ≡ cond b (word ∷ words) words ++ toLog ss′
+    by true word words joint e = ap (λ (l : List ℕ). word ∷ l) e
+    by false word words joint e = e
+
+-- Memory keeps its length and the words under its ports.
+pub record Spared (before later : List ℕ) : Type 0 where
+  pub words : length later ≡ length before
+  pub ports : (place : ℕ) → 4092 ≤ place → getD later place 0 ≡ getD before place 0
+
+spared : (ss : List Sent) (at : Left) → Spared (at .memory) (after ss at .memory)
+unfolding after
+spared [] at = record { words = refl; ports = λ place h. refl }
+spared (sent ∷ ss) at =
+    let here = leaves (at .memory) (at .log) (at .count) (sent .address) (sent .word) in
+    let rest = spared ss (writeAt (at .memory) (at .log) (at .count) (sent .address) (sent .word)) in
+    record { words = rest .words ∙ here .words; ports = λ place h. rest .ports place h ∙ here .ports place h }
+
+-- A word that was not refused found room.
+fits : (memory log : List ℕ) (count word : ℕ) → writeAt memory log count 4094 word .full ≡ false → count < length log
+unfolding writeAt goes sent logged
+fits memory log count word f = by (ltb count (length log)) refl
+  where
+    by : (b : Bool) → ltb count (length log) ≡ b → count < length log
+    by true e = ltb-true count (length log) e
+    by false e = absurd (true≢false (rw e at f))
+
+found-room : (ss : List Sent) → length ss ≤ 1 → (at : Left) → after ss at .full ≡ false → length (toLog ss) ≤ room at
+unfolding after toLog
+found-room [] h at f = omega arith
+found-room (sent ∷ []) h at f = by (eqb (sent .address) 4094) refl
+  where
+    by : (b : Bool) → eqb (sent .address) 4094 ≡ b → length (cond b (sent .word ∷ []) []) ≤ room at
+    by true e =
+        let l : at .count < length (at .log) = fits (at .memory) (at .log) (at .count) (sent .word) (rw (eqb-true (sent .address) 4094 e) at f) in
+        omega arith
+    by false e = omega arith
+found-room (sent ∷ other ∷ ss) h at f = let z : ⊥ = omega arith in absurd z
+
+-- Of one instruction: a refused one leaves everything; what one does to memory and log is the one write that it completes, if any.
+module _ (input : List ℕ) (s : State) where
+  pub refused-leaves : instruct input s .full ≡ true → instruct input s ≡ record { next = s; full = true; cycles = 0 }
+  unfolding instruct
+  refused-leaves f = by (acted input s .full) (acted input s) refl f
+    where
+      by : (b : Bool) (a : Act) → a .full ≡ b → cond b (record { next = s; full = true; cycles = 0 }) a .full ≡ true
+          → cond b (record { next = s; full = true; cycles = 0 }) a ≡ record { next = s; full = true; cycles = 0 }
+      by true a e f = refl
+      by false a e f = absurd (true≢false (sym f ∙ e))
+
+  pub instruct-leaves : foundIn (instruct input s .next) ≡ after (completed input s) (foundIn s)
+  unfolding instruct acted completed past after
+  instruct-leaves =
+      by (acted input s .full) (acted input s) (sends input (field 12 4 (fetched input s)) (kept 12 (fetched input s)) (past input s)) refl
+      (action-leaves input (kept 12 (fetched input s)) (past input s) (field 12 4 (fetched input s)) (code-below (fetched input s)))
+    where
+      by : (b : Bool) (a : Act) (ss : List Sent) → a .full ≡ b → leftIn a ≡ after ss (foundIn s)
+          → foundIn (cond b (record { next = s; full = true; cycles = 0 }) a .next)
+          ≡ after (cond (cond b (record { next = s; full = true; cycles = 0 }) a .full) [] ss) (foundIn s)
+      by true a ss f e = refl
+      by false a ss f e = rw f (rw f at e)
+
+  pub completed-one : length (completed input s) ≤ 1
+  unfolding completed
+  completed-one = few (instruct input s .full) [] _ (omega arith) (sends-one input (kept 12 (fetched input s)) (past input s) (field 12 4 (fetched input s)))
+
+-- Of a run: memory, log and count are what its completed writes, in turn, make of them.
+pub run-leaves : (input : List ℕ) (n : ℕ) (s : State) → foundIn (instructions input n s .state) ≡ after (completedBy input n s) (foundIn s)
+unfolding instructions completedBy onwards plus after
+run-leaves input zero s = refl
+run-leaves input (suc n) s =
+    by (instruct input s .full) refl (instructions input n (instruct input s .next)) (run-leaves input n (instruct input s .next))
+  where
+    by : (b : Bool) → instruct input s .full ≡ b → (rest : Ended)
+        → foundIn (rest .state) ≡ after (completedBy input n (instruct input s .next)) (foundIn (instruct input s .next))
+        → foundIn (onwards b (instruct input s) rest .state)
+        ≡ after (cond b [] (completed input s ++ completedBy input n (instruct input s .next))) (foundIn s)
+    by true f rest e = rw (refused-leaves input s f)
+    by false f rest e = e ∙ rw (instruct-leaves input s, after-append)
+
+-- Every word that a run sent to the log found room there.
+all-fit : (input : List ℕ) (n : ℕ) (s : State) → s .count ≤ length (s .log) → length (toLog (completedBy input n s)) ≤ room (foundIn s)
+unfolding completedBy toLog
+all-fit input zero s h = omega arith
+all-fit input (suc n) s h =
+    let next : State = instruct input s .next in
+    let took : Took (toLog (completed input s)) (foundIn s) (foundIn next) = rw (instruct-leaves input s) (bus.kept (completed input s) (foundIn s) h) in
+    by (instruct input s .full)
+    (found-room (completed input s) (completed-one input s) (foundIn s) (ap (λ (l : Left). l .full) (sym (instruct-leaves input s))))
+    (took .left)
+    (all-fit input n next (took .within))
+  where
+    by : (b : Bool) → length (toLog (completed input s)) ≤ room (foundIn s)
+        → room (foundIn (instruct input s .next)) ≡ room (foundIn s) - length (toLog (completed input s))
+        → length (toLog (completedBy input n (instruct input s .next))) ≤ room (foundIn (instruct input s .next))
+        → length (toLog (cond b [] (completed input s ++ completedBy input n (instruct input s .next)))) ≤ room (foundIn s)
+    by true one left rest = omega arith
+    by false one left rest = rw (toLog-append, length-append) (omega arith)
+
+-- After any run the log is its former words followed, in order, by every word that the completed writes sent to 4094, and nothing
+-- else; the room past them is as found.
+pub record Logged (words : List ℕ) (before later : State) : Type 0 where
+  pub holds : take (later .count) (later .log) ≡ take (before .count) (before .log) ++ words
+  pub past : drop (later .count) (later .log) ≡ drop (later .count) (before .log)
+  pub size : length (later .log) ≡ length (before .log)
+  pub within : later .count ≤ length (later .log)
+
+pub log-kept : (input : List ℕ) (n : ℕ) (s : State) → s .count ≤ length (s .log)
+    → Logged (toLog (completedBy input n s)) s (instructions input n s .state)
+log-kept input n s h =
+    let took : Took (toLog (completedBy input n s)) (foundIn s) (foundIn (instructions input n s .state)) =
+    rw (run-leaves input n s) (bus.kept (completedBy input n s) (foundIn s) h) in
+    record {
+      holds = took .holds ∙ rw (take-all (room (foundIn s)) (toLog (completedBy input n s)) (all-fit input n s h));
+      past = took .past;
+      size = took .size;
+      within = took .within;
+    }
+
+-- No run changes the words under the ports, or the length of memory.
+pub ports-kept : (input : List ℕ) (n : ℕ) (s : State) → Spared (s .memory) (instructions input n s .state .memory)
+ports-kept input n s = rw (ap (λ (l : Left). l .memory) (run-leaves input n s)) (spared (completedBy input n s) (foundIn s))

@@ -1,7 +1,7 @@
 -- `act` goes by the code; each arm is the table's action, and codes from 8 on go to `act_from_jump`.
 use native.Mathlib.Omega.{arith}
 use borrow.Author.Needs.{needs}
-use Rattle.interpreter.proofs.Laws.{next}
+use Rattle.interpreter.proofs.Laws.{beyond}
 use Rattle.interpreter.specs.Instruction.{action}
 use Rattle.interpreter.proofs.act.Statement.{statement}
 use Rattle.interpreter.proofs.act.Tie as tie
@@ -37,7 +37,7 @@ jump-requires-2 : tie.Need-jump-requires-2
 jump-requires-2 c κs = search needs
 
 act-from-jump-requires : tie.Need-act-from-jump-requires
-act-from-jump-requires c κs = let r = c .before .before .match .rest in let code = c .before .before .before .before .before .before .before .before .args .code in next code 7 (next code 6 (next code 5 (next code 4 (next code 3 (next code 2 (next code 1 (next code 0 ((omega arith)) (r .0 .0 .0 .0 .0 .0 .0 .1)) (r .0 .0 .0 .0 .0 .0 .1)) (r .0 .0 .0 .0 .0 .1)) (r .0 .0 .0 .0 .1)) (r .0 .0 .0 .1)) (r .0 .0 .1)) (r .0 .1)) (r .1)
+act-from-jump-requires c κs = let r = c .before .before .match .rest in let code = c .before .before .before .before .before .before .before .before .args .code in beyond code 7 (beyond code 6 (beyond code 5 (beyond code 4 (beyond code 3 (beyond code 2 (beyond code 1 (beyond code 0 ((omega arith)) (r .0 .0 .0 .0 .0 .0 .0 .1)) (r .0 .0 .0 .0 .0 .0 .1)) (r .0 .0 .0 .0 .0 .1)) (r .0 .0 .0 .0 .1)) (r .0 .0 .0 .1)) (r .0 .0 .1)) (r .0 .1)) (r .1)
 
 same-length : tie.Need-same-length
 same-length c = search needs

@@ -1,7 +1,7 @@
 -- `act_from_jump` goes by the code; each arm is the table's action.
 use native.Mathlib.Omega.{arith}
 use borrow.Author.Needs.{needs}
-use Rattle.interpreter.proofs.Laws.{next, last-action}
+use Rattle.interpreter.proofs.Laws.{beyond, last-action}
 use Rattle.interpreter.proofs.Laws.{last-action}
 use Rattle.interpreter.specs.Instruction.{action, sets}
 use Rattle.interpreter.proofs.act_from_jump.Statement.{statement}
@@ -150,7 +150,7 @@ same-length-14 : tie.Need-same-length-14
 same-length-14 c = search needs
 
 returns-8 : tie.Need-returns-8
-returns-8 c = let r = c .before .before .before .before .before .before .before .before .before .before .before .before .match .rest in let code = c .before .before .before .before .before .before .before .before .before .before .before .before .before .before .before .before .before .before .args .code in rw (last-action _ code _ _ (next code 14 (next code 13 (next code 12 (next code 11 (next code 10 (next code 9 (next code 8 (c .before .before .before .before .before .before .before .before .before .before .before .before .before .before .before .before .before .before .pre) (r .0 .0 .0 .0 .0 .0 .1)) (r .0 .0 .0 .0 .0 .1)) (r .0 .0 .0 .0 .1)) (r .0 .0 .0 .1)) (r .0 .0 .1)) (r .0 .1)) (r .1))) (simp (c .before .before .before .before .before .before .above3 .ensures, c .before .before .before .before .before .before .before .before .before .word-at4 .ensures, c .before .before .before .before .before .named2 .ensures) at (c .before .before .before .before .write4 .ensures))
+returns-8 c = let r = c .before .before .before .before .before .before .before .before .before .before .before .before .match .rest in let code = c .before .before .before .before .before .before .before .before .before .before .before .before .before .before .before .before .before .before .args .code in rw (last-action _ code _ _ (beyond code 14 (beyond code 13 (beyond code 12 (beyond code 11 (beyond code 10 (beyond code 9 (beyond code 8 (c .before .before .before .before .before .before .before .before .before .before .before .before .before .before .before .before .before .before .pre) (r .0 .0 .0 .0 .0 .0 .1)) (r .0 .0 .0 .0 .0 .1)) (r .0 .0 .0 .0 .1)) (r .0 .0 .0 .1)) (r .0 .0 .1)) (r .0 .1)) (r .1))) (simp (c .before .before .before .before .before .before .above3 .ensures, c .before .before .before .before .before .before .before .before .before .word-at4 .ensures, c .before .before .before .before .before .named2 .ensures) at (c .before .before .before .before .write4 .ensures))
 
 pub act-from-jump-spec : {M : Type 1} → statement M
 act-from-jump-spec =
