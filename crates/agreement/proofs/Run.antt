@@ -7,9 +7,7 @@ use native.Mathlib.Omega.{arith}
 use native.Mathlib.Nat.{add-zero}
 use lib.ListN.{length, getD, set}
 use lib.Dec.{leb, ltb, eqb}
-use Rattle.bus.specs.Ports.{Left, goes, logged, sent, writeAt}
-use Rattle.bus.specs.declared.Goes.{Goes}
-use Rattle.bus.specs.declared.Goes.the-variants.{Memory, Log, Nowhere}
+use Rattle.bus.specs.Ports.{Goes, Memory, Log, Nowhere, Left, goes, logged, sent, writeAt}
 use Rattle.engine.specs.Cycle.{State, cycle}
 use Rattle.engine.specs.Run.{Ended, says, plus, onwards, cycles}
 use Rattle.engine.proofs.Runs.{chained}

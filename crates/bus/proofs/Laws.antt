@@ -11,12 +11,10 @@ use lib.ListN.{length, getD, set, take, drop, length-set, length-append}
 use lib.Seq.{take-suc-set, take-nil, drop-set-lt, drop-drop, getD-set-other}
 use lib.Dec.{ltb, eqb}
 use borrow.Author.Tests.{lt-ltb, le-ltb, ltb-true, ltb-false, ne-eqb}
-use Rattle.bus.specs.Ports.{Left, Logged, goes, sent, logged, nextInput, readAt, writeAt}
+use Rattle.bus.specs.Ports.{Goes, Memory, Log, Nowhere, Left, Logged, goes, sent, logged, nextInput, readAt, writeAt}
 use Rattle.bus.specs.Log.{Sent, after, toLog, entries, room, Took}
 use Rattle.bus.specs.declared.Fetched.{Fetched}
 use Rattle.bus.specs.declared.Written.{Written}
-use Rattle.bus.specs.declared.Goes.{Goes}
-use Rattle.bus.specs.declared.Goes.the-variants.{Memory, Log, Nowhere}
 
 -- No second answer: a write's promise fixes the answer and both lent lists.
 pub write-only : {d : Left} {r r′ : Written} {memory memory′ log log′ : List ℕ}

@@ -5,8 +5,6 @@ use mathlib.Core.List.{List}
 use lib.ListN.{length, getD, set}
 use lib.Dec.{ltb, eqb}
 use Rattle.bus.specs.declared.Fetched.{Fetched}
-use Rattle.bus.specs.declared.Goes.{Goes}
-use Rattle.bus.specs.declared.Goes.the-variants.{Memory, Log, Nowhere}
 
 -- 32768 if so, else 0.
 abbrev pub flag : Bool → ℕ
@@ -27,6 +25,11 @@ readAt memory input place room address =
     (record { word = flag room; place = place }))))
 
 -- Where a completed write goes.
+pub data Goes : Type 0 where
+  Memory : Goes
+  Log : Goes
+  Nowhere : Goes
+
 unfoldable pub goes : ℕ → Goes
 goes address = cond (ltb address 4092) Memory (cond (eqb address 4094) Log Nowhere)
 

@@ -1,7 +1,7 @@
 // Main memory with its four ports, the input with its place and the log with its count: a completed read and a completed write.
 ghost use mathlib.Core.Path.{_≡_};
 ghost use lib.ListN.{getD, set};
-ghost use Rattle.bus.specs.Ports.{Left, goes, nextInput, logged, readAt, writeAt, flag};
+ghost use Rattle.bus.specs.Ports.{Left, nextInput, logged, readAt, writeAt, flag};
 use word::Address;
 
 const INPUT: usize = 4092;
@@ -14,13 +14,6 @@ const LOG: usize = 4094;
 pub struct Fetched {
     pub word: u16,
     pub place: usize,
-}
-
-// Where a completed write goes.
-pub enum Goes {
-    Memory,
-    Log,
-    Nowhere,
 }
 
 // A completed write: the log count afterwards, and whether the log was full.
@@ -90,19 +83,6 @@ pub fn read(memory: &[u16], input: &[u16], place: usize, room: bool, address: Ad
     }
 }
 
-pub fn goes_to(address: Address) -> Goes
-    ensures { λ r. ⌜ r ≡ goes (address .0) ⌝ }
-{
-    let x = address.0 as usize;
-    if x < INPUT {
-        return Goes::Memory;
-    }
-    if x == LOG {
-        return Goes::Log;
-    }
-    Goes::Nowhere
-}
-
 // A word added to the log, or refused before it is stored.
 pub fn append(log: &mut [u16], count: usize, word: u16) -> Written
     ensures { λ r. ⌜ logged (now (log .entry)) count word ≡ record { log = now (log .exit); count = r .count; full = r .full } ⌝ }
@@ -128,13 +108,13 @@ pub fn write(
 ) -> Written
     ensures { λ r. ⌜ writeAt (now (memory .entry)) (now (log .entry)) count (address .0) word ≡ record { memory = now (memory .exit); log = now (log .exit); count = r .count; full = r .full } ⌝ }
 {
-    let goes = goes_to(address);
-    match goes {
-        Goes::Memory => {
-            put(memory, address.0 as usize, word);
-            Written { count, full: false }
-        }
-        Goes::Log => append(log, count, word),
-        Goes::Nowhere => Written { count, full: false },
+    let place = address.0 as usize;
+    if place < INPUT {
+        put(memory, place, word);
+        return Written { count, full: false };
     }
+    if place == LOG {
+        return append(log, count, word);
+    }
+    Written { count, full: false }
 }

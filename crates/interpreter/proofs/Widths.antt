@@ -7,10 +7,8 @@ use native.Mathlib.Omega.{arith}
 use lib.ListN.{length, getD, set}
 use lib.Dec.{ltb, eqb}
 use Rattle.word.specs.Number.{field, kept}
-use Rattle.bus.specs.Ports.{Left, Logged, nextInput, readAt, goes, sent, logged, writeAt}
+use Rattle.bus.specs.Ports.{Goes, Memory, Log, Nowhere, Left, Logged, nextInput, readAt, goes, sent, logged, writeAt}
 use Rattle.bus.specs.declared.Fetched.{Fetched}
-use Rattle.bus.specs.declared.Goes.{Goes}
-use Rattle.bus.specs.declared.Goes.the-variants.{Memory, Log, Nowhere}
 use Rattle.interpreter.specs.Instruction.{State, Act, at, sets, writes, gains, jumps, action, fetched, past, acted, instruct}
 use Rattle.interpreter.specs.Run.{Ended, plus, onwards, instructions}
 
