@@ -1,7 +1,7 @@
 -- Laws of one instruction and of a run.
 use Prim.Native.Nat.{ℕ, zero, suc, _+_, _-_, _≤_, _<_}
 use mathlib.Core.Path.{_≡_, refl, sym, _∙_, ap}
-use mathlib.Core.Bool.{Bool, true, false, cond, true≢false}
+use mathlib.Core.Bool.{Bool, true, false, cond, not, true≢false}
 use mathlib.Core.List.{List, [], _∷_, _++_}
 use native.Mathlib.Nat.{add-zero, zero-add, add-assoc, suc-add}
 use native.Mathlib.Decide.{ℕ-discrete}
@@ -17,7 +17,7 @@ use Rattle.bus.specs.Log.{Sent, after, toLog, room, Took}
 use Rattle.bus.proofs.Laws.{leaves}
 use Rattle.bus.proofs.Laws as bus
 use Rattle.interpreter.specs.Instruction.{State, Act, at, below, above, named, sets, writes, gains, jumps, action, fetched, past, acted, instruct}
-use Rattle.interpreter.specs.Run.{Ended, plus, onwards, instructions, number, endedBy}
+use Rattle.interpreter.specs.Run.{Ended, plus, onwards, instructions, refusal, number, endedBy}
 use Rattle.interpreter.specs.Writes.{one, sends, completed, completedBy, foundIn, leftIn}
 use Rattle.interpreter.specs.declared.Answer.{Answer}
 use Rattle.interpreter.specs.declared.Answer.the-variants.{Done, Sizes, Places, Ranges, LogFull}
@@ -153,20 +153,35 @@ pub plus-none : (e : Ended) → plus 0 0 e ≡ e
 unfolding plus
 plus-none e = rw (zero-add, zero-add)
 
-module _ (input : List ℕ) (n done cycles : ℕ) (s : State) where
-  pub goes-on : (a : Act) → done < n → instruct input s ≡ a → a .full ≡ false
-      → plus done cycles (instructions input (n - done) s) ≡ plus (done + 1) (cycles + a .cycles) (instructions input (n - (done + 1)) (a .next))
-  unfolding instructions onwards plus
-  goes-on a h e f = let fewer : n - done ≡ suc (n - (done + 1)) = omega arith in rw (fewer, e, f, add-assoc, add-assoc)
+pub plus-plus : (done cycles done′ cycles′ : ℕ) (e : Ended) → plus done cycles (plus done′ cycles′ e) ≡ plus (done + done′) (cycles + cycles′) e
+unfolding plus
+plus-plus done cycles done′ cycles′ e = rw (add-assoc, add-assoc)
 
-  pub stops : (a : Act) → done < n → instruct input s ≡ a → a .full ≡ true
-      → plus done cycles (instructions input (n - done) s) ≡ record { state = a .next; done = done; cycles = cycles; answer = 5 }
-  unfolding instructions onwards plus
-  stops a h e f = let fewer : n - done ≡ suc (n - (done + 1)) = omega arith in rw (fewer, e, f, add-zero, add-zero)
+pub goes-on : (input : List ℕ) (left done cycles : ℕ) (s : State) (a : Act) → 0 < left → instruct input s ≡ a → a .full ≡ false
+    → plus done cycles (instructions input left s) ≡ plus (done + 1) (cycles + a .cycles) (instructions input (left - 1) (a .next))
+unfolding instructions onwards plus
+goes-on input zero done cycles s a h e f = let z : ⊥ = omega arith in absurd z
+goes-on input (suc left) done cycles s a h e f = let fewer : suc left - 1 ≡ left = omega arith in rw (fewer, e, f, add-assoc, add-assoc)
 
-  pub ends : n ≤ done → plus done cycles (instructions input (n - done) s) ≡ record { state = s; done = done; cycles = cycles; answer = 0 }
-  unfolding instructions plus
-  ends h = let none-left : n - done ≡ 0 = omega arith in rw (none-left, add-zero, add-zero)
+pub stops : (input : List ℕ) (left done cycles : ℕ) (s : State) (a : Act) → 0 < left → instruct input s ≡ a → a .full ≡ true
+    → plus done cycles (instructions input left s) ≡ record { state = a .next; done = done; cycles = cycles; answer = 5 }
+unfolding instructions onwards plus
+stops input zero done cycles s a h e f = let z : ⊥ = omega arith in absurd z
+stops input (suc left) done cycles s a h e f = rw (e, f, add-zero, add-zero)
+
+pub ends : (input : List ℕ) (n left cycles : ℕ) (s : State) → left ≤ 0
+    → plus (n - left) cycles (instructions input left s) ≡ record { state = s; done = n; cycles = cycles; answer = 0 }
+unfolding instructions plus
+ends input n left cycles s h = let none-left : left ≡ 0 = omega arith in let all : n - 0 ≡ n = omega arith in rw (none-left, all, add-zero, add-zero)
+
+-- What answers 1 to 3 let through has a memory of 4,096 words.
+pub has-words : (input : List ℕ) (s : State) → refusal input s ≡ 0 → length (s .memory) ≡ 4096
+unfolding refusal
+has-words input s e = by (eqb (length (s .memory)) 4096) _ refl e
+  where
+    by : (b : Bool) (rest : ℕ) → eqb (length (s .memory)) 4096 ≡ b → cond (not b) 1 rest ≡ 0 → length (s .memory) ≡ 4096
+    by true rest t e = eqb-true (length (s .memory)) 4096 t
+    by false rest t e = let z : ⊥ = omega arith in absurd z
 
 -- No second answer: a run's promise fixes what it hands back and both lent lists. The answer is read back from its number.
 answerOf : ℕ → Answer

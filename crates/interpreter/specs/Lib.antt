@@ -2,3 +2,4 @@ pub mod Instruction
 pub mod Run
 pub mod Handed
 pub mod Writes
+pub mod BelowPorts

@@ -1,78 +1,90 @@
 -- `carry_out_all` by a loop invariant: what is left to do, after what was done, comes to what the whole run comes to.
-use mathlib.Core.Path.{_≡_, refl, sym, _∙_, ap}
+use mathlib.Core.Path.{_≡_, refl, _∙_}
 use borrow.Author.Needs.{needs}
-use native.Mathlib.Nat.{sub-zero}
 use mathlib.Core.List.{List}
-use Prim.Native.Nat.{ℕ, _+_, _-_, _*_, _≤_}
+use Prim.Native.Nat.{ℕ, _-_, _*_, _≤_}
 use native.Mathlib.Omega.{arith}
 use lib.ListN.{length}
-use Rattle.interpreter.proofs.Laws.{paid, plus-none, goes-on, stops, ends}
+use Rattle.interpreter.proofs.Laws.{paid, stops, ends}
+use Rattle.interpreter.proofs.BelowPorts.{stage-on}
 use Rattle.interpreter.specs.Run.{instructions, plus, stateOf, number}
 use Rattle.interpreter.specs.declared.Cpu.{Cpu}
 use Rattle.interpreter.proofs.carry_out_all.Statement.{statement}
 use Rattle.interpreter.proofs.carry_out_all.Tie as tie
 
-record Inv (memory₀ input log₀ : List ℕ) (n : ℕ) (cpu₀ : Cpu) (memory log : List ℕ) (cpu : Cpu) (done cycles : ℕ) : Type 0 where
-  within : done ≤ n
-  spent : cycles ≤ 11 * done
+record Inv (memory₀ input log₀ : List ℕ) (n : ℕ) (cpu₀ : Cpu) (left₀ cycles₀ : ℕ) (memory log : List ℕ) (cpu : Cpu) (left cycles : ℕ) : Type 0 where
+  within : left ≤ n
+  spent : cycles ≤ 11 * (n - left)
   words : length memory ≡ length memory₀
   room : length log ≡ length log₀
-  same : instructions input n (stateOf cpu₀ memory₀ log₀) ≡ plus done cycles (instructions input (n - done) (stateOf cpu memory log))
+  same : plus (n - left₀) cycles₀ (instructions input left₀ (stateOf cpu₀ memory₀ log₀)) ≡ plus (n - left) cycles (instructions input left (stateOf cpu memory log))
 
 abbrev Inv-loop : tie.InvT-loop
-Inv-loop memory₀ input log₀ n cpu₀ done₀ cycles₀ memory log cpu done cycles = Inv memory₀ input log₀ n cpu₀ memory log cpu done cycles
+Inv-loop memory₀ input log₀ n cpu₀ left₀ cycles₀ memory log cpu left cycles = Inv memory₀ input log₀ n cpu₀ left₀ cycles₀ memory log cpu left cycles
 
 abbrev μ-loop : tie.MeasureT-loop
-μ-loop memory₀ input log₀ n cpu₀ done₀ cycles₀ memory log cpu done cycles = n - done
+μ-loop memory₀ input log₀ n cpu₀ left₀ cycles₀ memory log cpu left cycles = left
+
+pass-below-requires : tie.Need-pass-below-requires Inv-loop μ-loop
+pass-below-requires c κs = c .before .before .before .before .pre
 
 loop-holds : tie.Need-loop-holds Inv-loop μ-loop
-loop-holds c = record { within = omega arith; spent = omega arith; words = refl; room = refl; same = rw (plus-none, sub-zero) }
+loop-holds c = let first = c .before .before .before .pass-below .ensures in record { within = first .within; spent = first .spent; words = refl; room = refl; same = refl }
 
 carry-out-requires : tie.Need-carry-out-requires Inv-loop μ-loop
 carry-out-requires c κs = search needs
 
+sub-t19 : tie.Need-sub-t19 Inv-loop μ-loop
+sub-t19 c = omega (arith, c .before .before .before .before .before .before .before .before .before .before .loop .inv .within)
+
 same-length : tie.Need-same-length Inv-loop μ-loop
-same-length c = c .before .before .before .before .before .before .carry-out .kept .0 ∙ c .before .before .before .before .before .before .before .before .before .before .loop .inv .words
+same-length c = c .before .before .before .before .before .before .carry-out .kept .0 ∙ c .before .before .before .before .before .before .before .before .before .before .loop .inv .words ∙ c .before .before .before .before .before .before .before .before .before .before .before .before .before .before .pass-below .ensures .words
 
 same-length-2 : tie.Need-same-length-2 Inv-loop μ-loop
 same-length-2 c = c .before .before .before .before .before .before .carry-out .kept .1 .1 .0 ∙ c .before .before .before .before .before .before .before .before .before .before .loop .inv .room
 
 returns : tie.Need-returns Inv-loop μ-loop
 unfolding number
-returns c = c .before .before .before .before .before .before .before .before .before .before .loop .inv .same ∙ stops _ _ _ _ _ _ (c .before .before .before .before .before .before .before .before .before .loop-test .taken) (c .before .before .before .before .before .before .carry-out .ensures) (c .if1 .taken)
+returns c = c .before .before .before .before .before .before .before .before .before .before .before .before .before .before .pass-below .ensures .same _ _ ∙ c .before .before .before .before .before .before .before .before .before .before .loop .inv .same ∙ stops _ _ _ _ _ _ (c .before .before .before .before .before .before .before .before .before .loop-test .taken) (c .before .before .before .before .before .before .carry-out .ensures) (c .if1 .taken)
+
+sub-pass-below : tie.Need-sub-pass-below Inv-loop μ-loop
+sub-pass-below c = omega (arith, c .before .before .before .before .before .before .before .before .before .before .loop-test .taken)
+
+pass-below-requires-2 : tie.Need-pass-below-requires-2 Inv-loop μ-loop
+pass-below-requires-2 c κs = c .before .before .before .before .before .before .before .carry-out .kept .0 ∙ c .before .before .before .before .before .before .before .before .before .before .before .loop .inv .words ∙ c .before .before .before .before .before .before .before .before .before .before .before .before .before .before .before .pass-below .ensures .words ∙ c .before .before .before .before .before .before .before .before .before .before .before .before .before .before .before .before .before .before .before .before .pre
 
 add-cycles : tie.Need-add-cycles Inv-loop μ-loop
-add-cycles c =
-    let least : c .before .before .before .before .before .before .before .carry-out .result .cycles ≤ 11 = paid _ _ _ (c .before .before .before .before .before .before .before .carry-out .ensures) in
-    omega (arith, c .before .before .before .before .before .before .before .before .before .before .before .loop .inv .spent, c .before .before .before .before .before .before .before .before .before .before .loop-test .taken, c .before .before .before .before .before .before .before .before .before .before .before .before .before .before .before .fits .n)
+add-cycles c = let least : c .before .before .before .before .before .before .before .before .before .before .before .before .before .carry-out .result .cycles ≤ 11 = paid _ _ _ (c .before .before .before .before .before .before .before .before .before .before .before .before .before .carry-out .ensures) in let inv = c .before .before .before .before .before .before .before .before .before .before .before .before .before .before .before .before .before .loop .inv in let next = c .before .before .before .before .before .pass-below2 .ensures in omega (arith, least, inv .spent, inv .within, next .spent, next .within, c .before .before .before .before .before .before .before .before .before .before .before .before .before .before .before .before .loop-test .taken, c .before .before .before .before .before .before .before .before .before .before .before .before .before .before .before .before .before .before .before .before .before .before .before .before .before .before .fits .n)
 
-add-done : tie.Need-add-done Inv-loop μ-loop
-add-done c = omega arith
+add-cycles-2 : tie.Need-add-cycles-2 Inv-loop μ-loop
+add-cycles-2 c = let least : c .before .before .before .before .before .before .before .before .before .before .before .before .before .carry-out .result .cycles ≤ 11 = paid _ _ _ (c .before .before .before .before .before .before .before .before .before .before .before .before .before .carry-out .ensures) in let inv = c .before .before .before .before .before .before .before .before .before .before .before .before .before .before .before .before .before .loop .inv in let next = c .before .before .before .before .before .pass-below2 .ensures in omega (arith, least, inv .spent, inv .within, next .spent, next .within, c .before .before .before .before .before .before .before .before .before .before .before .before .before .before .before .before .loop-test .taken, c .before .before .before .before .before .before .before .before .before .before .before .before .before .before .before .before .before .before .before .before .before .before .before .before .before .before .fits .n)
 
 loop-less : tie.Need-loop-less Inv-loop μ-loop
-loop-less c = omega arith
+loop-less c = let next = c .before .before .before .before .before .pass-below2 .ensures in omega (arith, next .within, c .before .before .before .before .before .before .before .before .before .before .before .before .before .before .before .before .loop-test .taken)
 
 loop-again : tie.Need-loop-again Inv-loop μ-loop
 loop-again c =
-    let least : c .before .before .before .before .before .before .before .carry-out .result .cycles ≤ 11 = paid _ _ _ (c .before .before .before .before .before .before .before .carry-out .ensures) in
-    let inv = c .before .before .before .before .before .before .before .before .before .before .before .loop .inv in
+    let least : c .before .before .before .before .before .before .before .before .before .before .before .before .before .carry-out .result .cycles ≤ 11 = paid _ _ _ (c .before .before .before .before .before .before .before .before .before .before .before .before .before .carry-out .ensures) in
+    let inv = c .before .before .before .before .before .before .before .before .before .before .before .before .before .before .before .before .before .loop .inv in
+    let next = c .before .before .before .before .before .pass-below2 .ensures in
+    let more = c .before .before .before .before .before .before .before .before .before .before .before .before .before .before .before .before .loop-test .taken in
     record {
-      within = omega (arith, c .before .before .before .before .before .before .before .before .before .before .loop-test .taken);
-      spent = omega (arith, inv .spent);
-      words = c .before .before .before .before .before .before .before .carry-out .kept .0 ∙ inv .words;
-      room = c .before .before .before .before .before .before .before .carry-out .kept .1 .1 .0 ∙ inv .room;
-      same = inv .same ∙ goes-on _ _ _ _ _ _ (c .before .before .before .before .before .before .before .before .before .before .loop-test .taken) (c .before .before .before .before .before .before .before .carry-out .ensures) (c .before .if1 .left);
+      within = omega (arith, inv .within, next .within);
+      spent = omega (arith, least, inv .spent, inv .within, next .spent, next .within, more);
+      words = next .words ∙ c .before .before .before .before .before .before .before .before .before .before .before .before .before .carry-out .kept .0 ∙ inv .words;
+      room = c .before .before .before .before .before .before .before .before .before .before .before .before .before .carry-out .kept .1 .1 .0 ∙ inv .room;
+      same = inv .same ∙ stage-on _ _ _ _ _ _ _ _ _ (inv .within) more (c .before .before .before .before .before .before .before .before .before .before .before .before .before .carry-out .ensures) (c .before .before .before .before .before .before .before .if1 .left) (next .within) (next .same _ _);
     }
 
 same-length-3 : tie.Need-same-length-3 Inv-loop μ-loop
-same-length-3 c = c .before .loop .inv .words
+same-length-3 c = c .before .loop .inv .words ∙ c .before .before .before .before .before .pass-below .ensures .words
 
 same-length-4 : tie.Need-same-length-4 Inv-loop μ-loop
 same-length-4 c = c .before .loop .inv .room
 
 returns-2 : tie.Need-returns-2 Inv-loop μ-loop
 unfolding number
-returns-2 c = c .before .loop .inv .same ∙ ends _ _ _ _ _ (c .loop-test .left)
+returns-2 c = c .before .before .before .before .before .pass-below .ensures .same _ _ ∙ c .before .loop .inv .same ∙ ends _ _ _ _ _ (c .loop-test .left)
 
 pub carry-out-all-spec : {M : Type 1} → statement M
 carry-out-all-spec =
@@ -80,13 +92,17 @@ carry-out-all-spec =
     (tie.spec
     Inv-loop
     μ-loop
+    pass-below-requires
     loop-holds
     carry-out-requires
+    sub-t19
     same-length
     same-length-2
     returns
+    sub-pass-below
+    pass-below-requires-2
     add-cycles
-    add-done
+    add-cycles-2
     loop-less
     loop-again
     same-length-3

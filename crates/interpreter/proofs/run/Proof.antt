@@ -6,6 +6,7 @@ use Prim.Native.Nat.{ℕ}
 use mathlib.Core.List.{List, [], _∷_}
 use borrow.Author.Needs.{needs}
 use Rattle.interpreter.specs.declared.Answer.the-variants.{Done, Sizes, Places, Ranges, LogFull}
+use Rattle.interpreter.proofs.Laws.{has-words}
 use Rattle.interpreter.specs.declared.Answer.{Answer}
 use Rattle.interpreter.proofs.Answer as AnswerT
 use Rattle.interpreter.specs.Run.{number, begun, runs}
@@ -29,7 +30,8 @@ enum-told : tie.Need-enum-told
 enum-told c = search needs
 
 carry-out-all-requires : tie.Need-carry-out-all-requires
-carry-out-all-requires c κs = search needs
+unfolding number
+carry-out-all-requires c κs = has-words _ _ (rw (c .before .before .enum-told .given .1) at (c .before .before .before .before .check .ensures))
 
 same-length : tie.Need-same-length
 same-length c = search needs

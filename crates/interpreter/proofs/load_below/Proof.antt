@@ -1,0 +1,24 @@
+-- `load_below` leaves a port alone; below the ports AC gets memory's word.
+use Rattle.interpreter.proofs.BelowPorts.{stays, passes, gains-below}
+use borrow.Author.Needs.{needs}
+use Rattle.interpreter.proofs.load_below.Statement.{statement}
+use Rattle.interpreter.proofs.load_below.Tie as tie
+
+leave-requires : tie.Need-leave-requires
+leave-requires c κs = search needs
+
+returns : tie.Need-returns
+returns c = stays _ _ _ _ (c .leave .ensures)
+
+word-below-requires : tie.Need-word-below-requires
+word-below-requires c κs = search needs
+
+pass-requires : tie.Need-pass-requires
+pass-requires c κs = search needs
+
+returns-2 : tie.Need-returns-2
+returns-2 c = passes _ _ _ _ _ _ (c .pass .ensures) (rw (c .before .word-below .ensures) (λ input b. gains-below _ _ input b 9 _ (λ m. m) (c .before .before .before .before .if1 .left)))
+
+pub load-below-spec : {M : Type 1} → statement M
+load-below-spec =
+    tie.close (tie.spec leave-requires returns word-below-requires pass-requires returns-2)
