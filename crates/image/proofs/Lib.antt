@@ -1,5 +1,6 @@
 pub mod Answers
 pub mod Records
+pub mod Numbers
 pub mod RoundTrip
 pub mod Laws
 pub mod Putting

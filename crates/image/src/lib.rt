@@ -1,9 +1,10 @@
 // Memory images: records of an address and a value, read into a lent memory and written from one.
 ghost use mathlib.Core.Path.{_≡_};
+ghost use mathlib.Core.Bool.{false, cond};
 ghost use mathlib.Core.List.{_∷_};
-ghost use Prim.Native.Nat.{_+_, _≤_};
+ghost use Prim.Native.Nat.{_+_, _/_, _%_, _≤_};
 ghost use lib.ListN.{length, drop, replicate};
-ghost use lib.Dec.{eqb};
+ghost use lib.Dec.{ltb, eqb};
 ghost use Rattle.image.specs.Answers.{number};
 ghost use Rattle.image.specs.Records.{records, bytes, fault, recordOf};
 ghost use Rattle.image.specs.Image.{examined, memoryOf, reading, imageOf, writing, putAt};
@@ -51,6 +52,15 @@ fn record_at(image: &[u8], at: usize) -> Record
     Record { address, value }
 }
 
+// The same record as one number, which the machine loads at once: its address times 65,536, and its value.
+fn number_at(image: &[u8], at: usize) -> u32
+    requires { ⌜ at + 4 ≤ length (now image) ⌝ }
+    ensures { λ r. ⌜ records (drop at (now (image .entry))) ≡ record { address = record { 0 = r / 65536 }; value = r % 65536 } ∷ records (drop (at + 4) (now (image .entry))) ⌝ }
+{
+    let next = record_at(image, at);
+    next.address.0 as u32 * 65536 + next.value as u32
+}
+
 // Whether an answer is no refusal.
 fn is_done(answer: Answer) -> bool
     ensures { λ r. ⌜ r ≡ eqb (number answer) 0 ⌝ }
@@ -62,42 +72,57 @@ fn is_done(answer: Answer) -> bool
     }
 }
 
-// The answer to one record; `least` is the lowest address above the one before.
-fn judge(least: u16, next: Record) -> Answer
-    ensures { λ r. ⌜ number r ≡ fault least next ⌝ }
+// The answer to a record, read as a number, by itself.
+fn judge(last: u32) -> Answer
+    ensures { λ r. ⌜ number r ≡ fault 0 (record { address = record { 0 = last / 65536 }; value = last % 65536 }) ⌝ }
 {
-    if RECORDED <= next.address.0 {
+    if RECORDED as u32 <= last / 65536 {
         return Answer::AddressTooHigh;
     }
-    if next.address.0 < least {
-        return Answer::AddressNotAbove;
-    }
-    if next.value == 0 {
+    if last % 65536 == 0 {
         return Answer::ValueZero;
     }
     Answer::Done
 }
 
-// The answer to an image, whatever memory it is for.
+// Whether a record has a value and the next one is above it, both as numbers.
+fn follows(last: u32, next: u32) -> bool
+    ensures { λ r. ⌜ r ≡ cond (eqb (last % 65536) 0) false (ltb (last / 65536) (next / 65536)) ⌝ }
+{
+    if last % 65536 == 0 {
+        return false;
+    }
+    // `next` is compared whole: for a test of a part of it the compiler would load it in parts.
+    last / 65536 * 65536 + 65535 < next
+}
+
+// The answer to an image, whatever memory it is for. While records follow, only the last one's address can be too high.
 fn examine(image: &[u8]) -> Answer
     ensures { λ r. ⌜ number r ≡ examined (now (image .entry)) ⌝ }
 {
     if image.len() % 4 != 0 {
         return Answer::ImageLength;
     }
-    let mut least: u16 = 0;
-    let mut at: usize = 0;
+    if image.len() == 0 {
+        return Answer::Done;
+    }
+    let mut last = number_at(image, 0);
+    let mut at: usize = 4;
     while at < image.len() {
-        let next = record_at(image, at);
-        let fault = judge(least, next);
-        if is_done(fault) {
-            least = next.address.0 + 1;
+        let next = number_at(image, at);
+        if follows(last, next) {
+            last = next;
             at += 4;
         } else {
+            // The last record is read anew: kept for this, its number would cost a copy at each turn.
+            let fault = judge(number_at(image, at - 4));
+            if is_done(fault) {
+                return Answer::AddressNotAbove;
+            }
             return fault;
         }
     }
-    Answer::Done
+    judge(last)
 }
 
 // Every word becomes 0.
