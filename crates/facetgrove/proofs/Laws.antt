@@ -1,0 +1,91 @@
+-- Laws of the calls from C: a press is a run of 1, what a state handed on stands for, and no second answer.
+use Prim.Native.Nat.{ℕ, _<_}
+use mathlib.Core.Path.{_≡_, refl, sym, _∙_, ap}
+use mathlib.Core.Bool.{Bool, true, false, cond}
+use mathlib.Core.List.{List}
+use borrow.Author.Tests.{lt-ltb}
+use lib.Dec.{ltb, eqb}
+use Rattle.datapath.specs.declared.Half.{Half}
+use Rattle.datapath.specs.declared.Half.the-variants.{Nothing, Read, Write}
+use Rattle.engine.specs.Cycle.{State, cycle}
+use Rattle.engine.specs.Run.{Said, Ended, onwards, plus, cycles, refusal, begun, runs, Press, press}
+use Rattle.engine.specs.declared.Machine.{Machine}
+use Rattle.assembler.specs.Assembled.{Outcome}
+use Rattle.image.specs.Image.{Reading}
+use Rattle.facetgrove.specs.Called.{Called}
+use Rattle.facetgrove.specs.Engine.{halfOf, halfNumber, lineOf, stateList, machineOf}
+use Rattle.facetgrove.specs.Rooms.{Filled}
+
+-- A run of 1 carried out its cycle where it answers 0, and none where it answers anything else.
+once : (store input : List ℕ) (s : State) → runs store input 1 s .done ≡ cond (eqb (runs store input 1 s .said .number) 0) 1 0
+unfolding runs begun cycles onwards plus
+once store input s = by (refusal store input s) (eqb (refusal store input s .number) 0) refl (cycle store input s .full)
+  where
+    end : Said → Bool → Bool → Ended
+    end refused fine full =
+        cond fine (onwards full (cycle store input s .next) (cycles store input 0 (cycle store input s .next)))
+        (record { state = s; done = 0; said = refused })
+
+    by : (refused : Said) (fine : Bool) → eqb (refused .number) 0 ≡ fine → (full : Bool)
+        → end refused fine full .done ≡ cond (eqb (end refused fine full .said .number) 0) 1 0
+    by refused true e true = refl
+    by refused true e false = refl
+    by refused false e full = rw e
+
+-- What a press comes to, with the count that the run of 1 has.
+pub pressed : (store input : List ℕ) (s : State) {p : Press} → press store input s ≡ p
+    → runs store input 1 s ≡ record { state = p .state; done = cond (eqb (p .said .number) 0) 1 0; said = p .said }
+unfolding press
+pressed store input s e =
+    ap (λ (done : ℕ). record { state = runs store input 1 s .state; done = done; said = runs store input 1 s .said }) (once store input s)
+    ∙ ap (λ (p : Press). record { state = p .state; done = cond (eqb (p .said .number) 0) 1 0; said = p .said }) e
+
+-- Half done comes back from its number, which is at most 2.
+half-back : (half : Half) → halfOf (halfNumber half) ≡ half
+unfolding halfOf
+half-back Nothing = refl
+half-back Read = refl
+half-back Write = refl
+
+known : (half : Half) → ltb 2 (halfNumber half) ≡ false
+known Nothing = refl
+known Read = refl
+known Write = refl
+
+-- What a run left stands for the machine that it left, so the next call goes on where this one ended.
+pub handed-on : (m : Machine) → m .line .0 < 64 → machineOf (m .registers) (stateList (m .place) (m .count) (m .line .0) (m .half)) ≡ m
+unfolding machineOf lineOf
+handed-on m h = rw (known (m .half), lt-ltb _ _ h, half-back (m .half))
+
+-- No second answer: a call's equation fixes the answer and every lent list. Of a run:
+pub called-only : {d : Called} {answer answer′ : ℕ} {registers registers′ state state′ memory memory′ log log′ told told′ : List ℕ}
+    → d ≡ record { answer = answer; registers = registers; state = state; memory = memory; log = log; told = told }
+    → d ≡ record { answer = answer′; registers = registers′; state = state′; memory = memory′; log = log′; told = told′ }
+    → (answer ≡ answer′) × (registers ≡ registers′) × (state ≡ state′) × (memory ≡ memory′) × (log ≡ log′) × (told ≡ told′)
+called-only p q =
+    let e = sym p ∙ q in (
+      ap (λ (x : Called). x .answer) e,
+      ap (λ (x : Called). x .registers) e,
+      ap (λ (x : Called). x .state) e,
+      ap (λ (x : Called). x .memory) e,
+      ap (λ (x : Called). x .log) e,
+      ap (λ (x : Called). x .told) e,
+    )
+
+-- Of a listing and of an image written:
+pub filled-only : {d : Filled} {answer answer′ : ℕ} {room room′ told told′ : List ℕ}
+    → d ≡ record { answer = answer; room = room; told = told } → d ≡ record { answer = answer′; room = room′; told = told′ }
+    → (answer ≡ answer′) × (room ≡ room′) × (told ≡ told′)
+filled-only p q =
+    let e = sym p ∙ q in
+    (ap (λ (x : Filled). x .answer) e, ap (λ (x : Filled). x .room) e, ap (λ (x : Filled). x .told) e)
+
+-- Of a text assembled:
+pub assembled-only : {d : Outcome} {answer answer′ : ℕ} {store store′ : List ℕ} → d ≡ record { answer = answer; store = store }
+    → d ≡ record { answer = answer′; store = store′ } → (answer ≡ answer′) × (store ≡ store′)
+assembled-only p q = let e = sym p ∙ q in (ap (λ (x : Outcome). x .answer) e, ap (λ (x : Outcome). x .store) e)
+
+-- Of an image read:
+pub read-only : {d : Reading} {answer answer′ : ℕ} {memory memory′ : List ℕ} → d ≡ record { answer = answer; memory = memory }
+    → d ≡ record { answer = answer′; memory = memory′ } → (answer ≡ answer′) × (memory ≡ memory′)
+read-only p q = let e = sym p ∙ q in (ap (λ (x : Reading). x .answer) e, ap (λ (x : Reading). x .memory) e)

@@ -1,0 +1,34 @@
+-- The interpreter called from C: its registers as lists of numbers, and what a run leaves in them (01, Instructions; Answer numbers).
+use Prim.Native.Nat.{ℕ}
+use mathlib.Core.List.{List, [], _∷_}
+use lib.ListN.{getD}
+use Rattle.interpreter.specs.declared.Cpu.{Cpu}
+use Rattle.interpreter.specs.Run.{Ended, runs, stateOf}
+use Rattle.facetgrove.specs.Called.{Called}
+
+-- `registers` is CP, AC and PP, `state` the input place and the log count.
+abbrev pub cpuOf : List ℕ → List ℕ → Cpu
+cpuOf registers state =
+    record {
+      cp = record { 0 = getD registers 0 0 };
+      ac = getD registers 1 0;
+      pp = record { 0 = getD registers 2 0 };
+      place = getD state 0 0;
+      count = getD state 1 0;
+    }
+
+-- What a run's end is to the caller: told are the instructions carried out and the sum of their cycles.
+abbrev pub leaves : Ended → Called
+leaves e =
+    record {
+      answer = e .answer;
+      registers = e .state .cp ∷ e .state .ac ∷ e .state .pp ∷ [];
+      state = e .state .place ∷ e .state .count ∷ [];
+      memory = e .state .memory;
+      log = e .state .log;
+      told = e .done ∷ e .cycles ∷ [];
+    }
+
+-- A run of n instructions.
+unfoldable pub interpreterCalled : List ℕ → ℕ → List ℕ → List ℕ → List ℕ → List ℕ → Called
+interpreterCalled input n registers state memory log = leaves (runs input n (stateOf (cpuOf registers state) memory log))

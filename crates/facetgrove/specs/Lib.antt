@@ -1,0 +1,4 @@
+pub mod Called
+pub mod Engine
+pub mod Interpreter
+pub mod Rooms
