@@ -19,7 +19,7 @@ use Rattle.datapath.specs.Result.{alu, both, jumps, keeps}
 use Rattle.datapath.specs.Transfer.{waits, completedRead, completedWrite, reads, writes, transferred}
 use Rattle.microword.specs.Microword.{fieldsOf}
 use Rattle.engine.specs.Cycle.{State, Cycled, result, stored, transfer, target, nextLine, driven}
-use Rattle.interpreter.specs.Instruction.{State as Cpu, Act, at, sets, writes as sends, gains, jumps as goes, action}
+use Rattle.instruction.specs.Instruction.{State as Cpu, Act, at, sets, writes as sends, gains, jumps as goes, action}
 use Rattle.printed.specs.Printed.{printed}
 use Rattle.agreement.specs.Cycles.{cost}
 use Rattle.agreement.specs.Demand.{seen}

@@ -13,7 +13,7 @@ use Rattle.microtext.specs.Text.{bytes, same}
 use Rattle.microtext.specs.Tokens.{every, oneToken, begun, under, ended, going, tokensAfter}
 use Rattle.microtext.specs.Grammar.{place, register, destination, number, operation, formula, last, front, bare, jump, test, part}
 use Rattle.microtext.specs.Line.{cut, divided, lastPart, parts, someForeign, add, given, clash, settled, meaning, behindNumber, numbered, line}
-use Rattle.interpreter.specs.Instruction.{sets, writes, gains, jumps, action, fetched, past, acted, instruct}
+use Rattle.instruction.specs.Instruction.{sets, writes, gains, jumps, action, fetched, past, acted, instruct}
 use Rattle.agreement.specs.Figures.{Figure, figures, stop}
 
 pub figures-hold : map (λ (f : Figure). f .given) figures ≡ map (λ (f : Figure). f .said) figures

@@ -11,7 +11,7 @@ use borrow.Author.Tests.{le-ltb, eq-eqb}
 use Rattle.engine.specs.Cycle.{State, register}
 use Rattle.engine.specs.Run.{Said, says, refusal, Ended, plus, begun, cycles, runs}
 use Rattle.engine.proofs.Runs.{chained}
-use Rattle.interpreter.specs.Instruction.{State as Cpu, acted}
+use Rattle.instruction.specs.Instruction.{State as Cpu, acted}
 use Rattle.interpreter.specs.Run.{Ended as Interpreted, refusal as refuses, begun as starts, instructions, runs as interpreted}
 use Rattle.printed.specs.Printed.{printed}
 use Rattle.agreement.specs.Demand.{seen, Ready, Words, Fits, Start, ran, Agrees, Together, Answered}

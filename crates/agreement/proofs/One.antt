@@ -17,7 +17,7 @@ use Rattle.microword.specs.Microword.{fieldsOf}
 use Rattle.engine.specs.Cycle.{State, Cycled, result, stored, transfer, target, driven, settled, cycle}
 use Rattle.engine.specs.Run.{Ended, plus, cycles}
 use Rattle.engine.proofs.Runs.{chained}
-use Rattle.interpreter.specs.Instruction.{State as Cpu, Act, at, fetched, past, acted, instruct}
+use Rattle.instruction.specs.Instruction.{State as Cpu, Act, at, fetched, past, acted, instruct}
 use Rattle.printed.specs.Printed.{printed}
 use Rattle.agreement.specs.Demand.{seen, Ready, Words, Fits, ran, strays, Carried, Stopped, Agrees}
 use Rattle.agreement.specs.Cycles.{cost}

@@ -11,7 +11,7 @@ use Rattle.bus.specs.Ports.{Goes, Memory, Log, Nowhere, Left, goes, logged, sen
 use Rattle.engine.specs.Cycle.{State, cycle}
 use Rattle.engine.specs.Run.{Ended, says, plus, onwards, cycles}
 use Rattle.engine.proofs.Runs.{chained}
-use Rattle.interpreter.specs.Instruction.{State as Cpu, Act, at, sets, writes, gains, jumps, action, fetched, past, acted, instruct}
+use Rattle.instruction.specs.Instruction.{State as Cpu, Act, at, sets, writes, gains, jumps, action, fetched, past, acted, instruct}
 use Rattle.interpreter.specs.Run.{Ended as Interpreted, plus as adding, onwards as after, instructions}
 use Rattle.printed.specs.Printed.{printed}
 use Rattle.agreement.specs.Demand.{seen, Ready, Words, Fits, ran, Carried, Stopped, Agrees, Together}

@@ -8,7 +8,7 @@ use lib.Dec.{eqb}
 use Rattle.datapath.specs.declared.Half.the-variants.{Nothing}
 use Rattle.engine.specs.Cycle.{State, Cycled, register, cycle}
 use Rattle.engine.specs.Run.{Ended, says, refusal, cycles, runs}
-use Rattle.interpreter.specs.Instruction.{State as Cpu, Act, instruct, acted}
+use Rattle.instruction.specs.Instruction.{State as Cpu, Act, instruct, acted}
 use Rattle.interpreter.specs.Run.{Ended as Interpreted, runs as interpreted}
 use Rattle.printed.specs.Printed.{printed}
 

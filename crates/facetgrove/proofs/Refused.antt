@@ -10,7 +10,7 @@ use lib.Dec.{ltb, eqb}
 use lib.ListN.{length, getD}
 use Rattle.engine.specs.Cycle.{State, cycle}
 use Rattle.engine.specs.Run.{Ended, onwards, plus, cycles, refusal, begun, runs, stateOf}
-use Rattle.interpreter.specs.Instruction.{State as Interpreter·State, instruct}
+use Rattle.instruction.specs.Instruction.{State as Interpreter·State, instruct, stateOf as Interpreter·stateOf}
 use Rattle.interpreter.specs.Run.{
   Ended as Interpreter·Ended,
   onwards as Interpreter·onwards,
@@ -19,7 +19,6 @@ use Rattle.interpreter.specs.Run.{
   refusal as Interpreter·refusal,
   begun as Interpreter·begun,
   runs as Interpreter·runs,
-  stateOf as Interpreter·stateOf,
 }
 use Rattle.facetgrove.specs.Called.{Called}
 use Rattle.facetgrove.specs.Engine.{lineOf, machineOf, ranBy, leaves, engineCalled}

@@ -2,8 +2,9 @@
 use Prim.Native.Nat.{ℕ}
 use mathlib.Core.List.{List, [], _∷_}
 use lib.ListN.{getD}
-use Rattle.interpreter.specs.declared.Cpu.{Cpu}
-use Rattle.interpreter.specs.Run.{Ended, runs, stateOf}
+use Rattle.instruction.specs.declared.Cpu.{Cpu}
+use Rattle.interpreter.specs.Run.{Ended, runs}
+use Rattle.instruction.specs.Instruction.{stateOf}
 use Rattle.facetgrove.specs.Called.{Called}
 
 -- `registers` is CP, AC and PP, `state` the input place and the log count.

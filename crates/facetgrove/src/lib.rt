@@ -15,7 +15,7 @@ ghost use Rattle.facetgrove.specs.Interpreter.{interpreterCalled};
 ghost use Rattle.facetgrove.specs.Rooms.{listCalled, writeCalled};
 use datapath::Half;
 use engine::Machine;
-use interpreter::Cpu;
+use instruction::Cpu;
 use microtext::Fault;
 use word::Address;
 use word::Line;

@@ -11,14 +11,16 @@ use Rattle.word.specs.declared.Address.{Address}
 use Rattle.word.specs.Number.{field, kept, sum, difference}
 use Rattle.bus.specs.declared.Fetched.{Fetched}
 use Rattle.bus.specs.Ports.{readAt, writeAt, goes, sent}
-use Rattle.interpreter.specs.Instruction.{State, Act, at, sets, writes, gains, jumps, fetched, past, acted, action, instruct}
+use Rattle.instruction.specs.Instruction.{State, Act, at, sets, writes, gains, jumps, fetched, past, acted, action, instruct}
 use Rattle.interpreter.specs.BelowPorts.{Beside, Plain, Onward, stateWith, copies, returns, pops}
-use Rattle.interpreter.specs.Run.{instructions, plus, stateOf}
-use Rattle.interpreter.specs.declared.Cpu.{Cpu}
+use Rattle.interpreter.specs.Run.{instructions, plus}
+use Rattle.instruction.specs.Instruction.{stateOf}
+use Rattle.instruction.specs.declared.Cpu.{Cpu}
 use Rattle.interpreter.specs.declared.Stage.{Stage}
 use Rattle.interpreter.specs.declared.Registers.{Registers}
 use Rattle.interpreter.specs.declared.Passed.{Passed}
-use Rattle.interpreter.proofs.Laws.{carried, paid, plus-none, plus-plus, goes-on}
+use Rattle.instruction.proofs.Laws.{carried, paid}
+use Rattle.interpreter.proofs.Laws.{plus-none, plus-plus, goes-on}
 
 -- An instruction that met a port, and one that was done.
 module _ (acts : List ℕ → Beside → Act) (memory : List ℕ) where

@@ -5,7 +5,7 @@ use mathlib.Core.Bool.{Bool, true, false}
 use mathlib.Core.List.{List, [], _∷_, map}
 use lib.ListN.{length, getD, set, replicate}
 use Rattle.bus.specs.Ports.{nextInput, readAt, goes, sent, logged, writeAt}
-use Rattle.interpreter.specs.Instruction.{State, Act, sets, writes, gains, jumps, action, fetched, past, acted, instruct}
+use Rattle.instruction.specs.Instruction.{State, Act, sets, writes, gains, jumps, action, fetched, past, acted, instruct}
 use Rattle.interpreter.specs.Run.{Ended, plus, onwards, instructions, refusal, begun, runs}
 
 -- A memory of zero words but for one instruction.

@@ -9,7 +9,7 @@ use lib.Dec.{ltb, eqb}
 use Rattle.word.specs.Number.{field, kept}
 use Rattle.bus.specs.Ports.{Goes, Memory, Log, Nowhere, Left, Logged, nextInput, readAt, goes, sent, logged, writeAt}
 use Rattle.bus.specs.declared.Fetched.{Fetched}
-use Rattle.interpreter.specs.Instruction.{State, Act, at, sets, writes, gains, jumps, action, fetched, past, acted, instruct}
+use Rattle.instruction.specs.Instruction.{State, Act, at, sets, writes, gains, jumps, action, fetched, past, acted, instruct}
 use Rattle.interpreter.specs.Run.{Ended, plus, onwards, instructions}
 
 -- Every word has 16 bits.

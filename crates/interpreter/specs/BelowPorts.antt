@@ -5,12 +5,12 @@ use mathlib.Core.Bool.{true, false}
 use mathlib.Core.List.{List}
 use lib.ListN.{length}
 use Rattle.word.specs.Number.{kept}
-use Rattle.interpreter.specs.Instruction.{State, Act, at, below, above, sets, writes}
-use Rattle.interpreter.specs.Run.{instructions, plus, stateOf}
+use Rattle.instruction.specs.Instruction.{State, Act, at, below, above, sets, writes, stateOf}
+use Rattle.interpreter.specs.Run.{instructions, plus}
 use Rattle.interpreter.specs.declared.Registers.{Registers}
 use Rattle.interpreter.specs.declared.Passed.{Passed}
 use Rattle.interpreter.specs.declared.Stage.{Stage}
-use Rattle.interpreter.specs.declared.Cpu.{Cpu}
+use Rattle.instruction.specs.declared.Cpu.{Cpu}
 
 -- What stands still where no port is met.
 pub record Beside : Type 0 where

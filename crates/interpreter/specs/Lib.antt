@@ -1,5 +1,3 @@
-pub mod Instruction
 pub mod Run
-pub mod Handed
 pub mod Writes
 pub mod BelowPorts

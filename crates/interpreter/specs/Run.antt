@@ -4,10 +4,9 @@ use mathlib.Core.Bool.{Bool, true, false, cond, not, _||_}
 use mathlib.Core.List.{List}
 use lib.ListN.{length}
 use lib.Dec.{ltb, eqb}
-use Rattle.interpreter.specs.Instruction.{State, Act, instruct}
+use Rattle.instruction.specs.Instruction.{State, Act, instruct, stateOf}
 use Rattle.interpreter.specs.declared.Answer.{Answer}
 use Rattle.interpreter.specs.declared.Answer.the-variants.{Done, Sizes, Places, Ranges, LogFull}
-use Rattle.interpreter.specs.declared.Cpu.{Cpu}
 use Rattle.interpreter.specs.declared.Ran.{Ran}
 
 -- 01's number for each answer of the code.
@@ -53,11 +52,6 @@ begun refused input n s = cond (eqb refused 0) (instructions input n s) (record 
 
 unfoldable pub runs : List ℕ → ℕ → State → Ended
 runs input n s = begun (refusal input s) input n s
-
--- The registers and the lent lists, as one state.
-abbrev pub stateOf : Cpu → List ℕ → List ℕ → State
-stateOf c memory log =
-    record { cp = c .cp .0; pp = c .pp .0; ac = c .ac; place = c .place; count = c .count; memory = memory; log = log }
 
 -- What the code's run hands back, with the lent lists.
 abbrev pub endedBy : Ran → List ℕ → List ℕ → Ended

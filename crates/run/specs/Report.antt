@@ -5,7 +5,7 @@ use mathlib.Core.List.{List, []}
 use lib.Dec.{ltb, eqb}
 use lib.ListN.{length, replicate}
 use Rattle.image.specs.Image.{Reading, reading}
-use Rattle.interpreter.specs.Instruction.{State}
+use Rattle.instruction.specs.Instruction.{State}
 use Rattle.interpreter.specs.Run.{Ended, runs}
 use Rattle.console.specs.Text.{refusal, report}
 use Rattle.console.specs.declared.Run.{Run}

@@ -8,7 +8,7 @@ ghost use Rattle.interpreter.specs.Run.{number as Run·number};
 ghost use Rattle.run.specs.Report.{ran, printed};
 use console::Input;
 use console::Run;
-use interpreter::Cpu;
+use instruction::Cpu;
 use word::Address;
 
 // The bytes of the longest image.

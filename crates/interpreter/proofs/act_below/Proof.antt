@@ -1,14 +1,14 @@
 -- `act_below` goes by the code; each arm is the table's action below the ports, and codes from 8 on go to `act_below_from_jump`.
 use Rattle.interpreter.proofs.BelowPorts.{passes}
-use Rattle.interpreter.specs.Instruction.{action, sets, jumps}
+use Rattle.instruction.specs.Instruction.{action, sets, jumps}
 use mathlib.Core.Path.{refl}
-use Rattle.interpreter.proofs.Laws.{beyond}
+use Rattle.instruction.proofs.Laws.{beyond}
 use native.Mathlib.Omega.{arith}
 use borrow.Author.Tests.{eq-eqb, ne-eqb, le-leb, lt-leb}
 use Rattle.interpreter.proofs.BelowPorts.{passes}
-use Rattle.interpreter.proofs.Laws.{beyond}
+use Rattle.instruction.proofs.Laws.{beyond}
 use Rattle.interpreter.proofs.BelowPorts.{passes}
-use Rattle.interpreter.proofs.Laws.{beyond}
+use Rattle.instruction.proofs.Laws.{beyond}
 use borrow.Author.Needs.{needs}
 use Rattle.interpreter.proofs.act_below.Statement.{statement}
 use Rattle.interpreter.proofs.act_below.Tie as tie

@@ -1,12 +1,12 @@
 -- `act_below_from_jump` goes by the code; each arm is the table's action below the ports.
 use Rattle.interpreter.proofs.BelowPorts.{passes, as-well}
-use Rattle.interpreter.specs.Instruction.{action, sets}
+use Rattle.instruction.specs.Instruction.{action, sets}
 use mathlib.Core.Path.{refl}
-use Rattle.interpreter.proofs.Laws.{beyond, last-action}
+use Rattle.instruction.proofs.Laws.{beyond, last-action}
 use Rattle.interpreter.proofs.BelowPorts.{passes}
-use Rattle.interpreter.specs.Instruction.{action, sets}
+use Rattle.instruction.specs.Instruction.{action, sets}
 use Rattle.interpreter.proofs.BelowPorts.{passes}
-use Rattle.interpreter.specs.Instruction.{action, sets}
+use Rattle.instruction.specs.Instruction.{action, sets}
 use borrow.Author.Needs.{needs}
 use Rattle.interpreter.proofs.act_below_from_jump.Statement.{statement}
 use Rattle.interpreter.proofs.act_below_from_jump.Tie as tie

@@ -5,10 +5,12 @@ use mathlib.Core.List.{List}
 use Prim.Native.Nat.{ℕ, _-_, _*_, _≤_}
 use native.Mathlib.Omega.{arith}
 use lib.ListN.{length}
-use Rattle.interpreter.proofs.Laws.{paid, stops, ends}
+use Rattle.instruction.proofs.Laws.{paid}
+use Rattle.interpreter.proofs.Laws.{stops, ends}
 use Rattle.interpreter.proofs.BelowPorts.{stage-on}
-use Rattle.interpreter.specs.Run.{instructions, plus, stateOf, number}
-use Rattle.interpreter.specs.declared.Cpu.{Cpu}
+use Rattle.interpreter.specs.Run.{instructions, plus, number}
+use Rattle.instruction.specs.Instruction.{stateOf}
+use Rattle.instruction.specs.declared.Cpu.{Cpu}
 use Rattle.interpreter.proofs.carry_out_all.Statement.{statement}
 use Rattle.interpreter.proofs.carry_out_all.Tie as tie
 

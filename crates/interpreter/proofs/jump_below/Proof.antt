@@ -1,6 +1,6 @@
 -- `jump_below` leaves a jump to a port undone; any other sets CP.
 use Rattle.interpreter.proofs.BelowPorts.{stays, passes}
-use Rattle.interpreter.specs.Instruction.{jumps, sets}
+use Rattle.instruction.specs.Instruction.{jumps, sets}
 use mathlib.Core.Path.{refl}
 use borrow.Author.Needs.{needs}
 use Rattle.interpreter.proofs.jump_below.Statement.{statement}

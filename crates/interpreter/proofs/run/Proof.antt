@@ -10,7 +10,7 @@ use Rattle.interpreter.proofs.Laws.{has-words}
 use Rattle.interpreter.specs.declared.Answer.{Answer}
 use Rattle.interpreter.proofs.Answer as AnswerT
 use Rattle.interpreter.specs.Run.{number, begun, runs}
-use Rattle.interpreter.specs.Instruction.{State}
+use Rattle.instruction.specs.Instruction.{State}
 use Rattle.interpreter.proofs.run.Statement.{statement}
 use Rattle.interpreter.proofs.run.Tie as tie
 

@@ -7,6 +7,7 @@ use lib.Dec.{leb, ltb, eqb}
 use Rattle.word.specs.Number.{field, kept, sum, difference}
 use Rattle.bus.specs.declared.Fetched.{Fetched}
 use Rattle.bus.specs.Ports.{Left, readAt, writeAt}
+use Rattle.instruction.specs.declared.Cpu.{Cpu}
 
 -- What the interpreter works on: CP, PP, AC, the input place, the log count, memory and log.
 pub record State : Type 0 where
@@ -17,6 +18,11 @@ pub record State : Type 0 where
   pub count : ℕ
   pub memory : List ℕ
   pub log : List ℕ
+
+-- The registers and the lent lists, as one state.
+abbrev pub stateOf : Cpu → List ℕ → List ℕ → State
+stateOf c memory log =
+    record { cp = c .cp .0; pp = c .pp .0; ac = c .ac; place = c .place; count = c .count; memory = memory; log = log }
 
 -- m[address], through the ports.
 abbrev pub at : List ℕ → State → ℕ → Fetched

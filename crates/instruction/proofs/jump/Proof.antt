@@ -1,8 +1,8 @@
 -- `jump` goes by the test.
 use borrow.Author.Needs.{needs}
-use Rattle.interpreter.specs.Instruction.{jumps, sets}
-use Rattle.interpreter.proofs.jump.Statement.{statement}
-use Rattle.interpreter.proofs.jump.Tie as tie
+use Rattle.instruction.specs.Instruction.{jumps, sets}
+use Rattle.instruction.proofs.jump.Statement.{statement}
+use Rattle.instruction.proofs.jump.Tie as tie
 
 set-requires : tie.Need-set-requires
 set-requires c κs = search needs

@@ -1,9 +1,9 @@
 -- `carry_out` fetches, then acts; a refused action has left memory and log as they were.
 use borrow.Author.Needs.{needs}
-use Rattle.interpreter.specs.Instruction.{acted, fetched, past}
-use Rattle.interpreter.proofs.Laws.{carried, held}
-use Rattle.interpreter.proofs.carry_out.Statement.{statement}
-use Rattle.interpreter.proofs.carry_out.Tie as tie
+use Rattle.instruction.specs.Instruction.{acted, fetched, past}
+use Rattle.instruction.proofs.Laws.{carried, held}
+use Rattle.instruction.proofs.carry_out.Statement.{statement}
+use Rattle.instruction.proofs.carry_out.Tie as tie
 
 word-at-requires : tie.Need-word-at-requires
 word-at-requires c κs = search needs

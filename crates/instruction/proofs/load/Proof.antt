@@ -1,8 +1,8 @@
 -- `load` reads, then sets AC.
 use borrow.Author.Needs.{needs}
-use Rattle.interpreter.specs.Instruction.{gains, sets}
-use Rattle.interpreter.proofs.load.Statement.{statement}
-use Rattle.interpreter.proofs.load.Tie as tie
+use Rattle.instruction.specs.Instruction.{gains, sets}
+use Rattle.instruction.proofs.load.Statement.{statement}
+use Rattle.instruction.proofs.load.Tie as tie
 
 word-at-requires : tie.Need-word-at-requires
 word-at-requires c κs = search needs

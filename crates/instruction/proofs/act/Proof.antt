@@ -1,10 +1,10 @@
 -- `act` goes by the code; each arm is the table's action, and codes from 8 on go to `act_from_jump`.
 use native.Mathlib.Omega.{arith}
 use borrow.Author.Needs.{needs}
-use Rattle.interpreter.proofs.Laws.{beyond}
-use Rattle.interpreter.specs.Instruction.{action}
-use Rattle.interpreter.proofs.act.Statement.{statement}
-use Rattle.interpreter.proofs.act.Tie as tie
+use Rattle.instruction.proofs.Laws.{beyond}
+use Rattle.instruction.specs.Instruction.{action}
+use Rattle.instruction.proofs.act.Statement.{statement}
+use Rattle.instruction.proofs.act.Tie as tie
 
 load-requires : tie.Need-load-requires
 load-requires c κs = search needs

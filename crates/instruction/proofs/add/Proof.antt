@@ -1,8 +1,8 @@
 -- `add` reads, then sets AC to the sum.
 use borrow.Author.Needs.{needs}
-use Rattle.interpreter.specs.Instruction.{gains, sets}
-use Rattle.interpreter.proofs.add.Statement.{statement}
-use Rattle.interpreter.proofs.add.Tie as tie
+use Rattle.instruction.specs.Instruction.{gains, sets}
+use Rattle.instruction.proofs.add.Statement.{statement}
+use Rattle.instruction.proofs.add.Tie as tie
 
 word-at-requires : tie.Need-word-at-requires
 word-at-requires c κs = search needs

@@ -1,8 +1,8 @@
 -- `write` is the bus's write, with the registers set.
 use borrow.Author.Needs.{needs}
-use Rattle.interpreter.specs.Instruction.{writes}
-use Rattle.interpreter.proofs.write.Statement.{statement}
-use Rattle.interpreter.proofs.write.Tie as tie
+use Rattle.instruction.specs.Instruction.{writes}
+use Rattle.instruction.proofs.write.Statement.{statement}
+use Rattle.instruction.proofs.write.Tie as tie
 
 write-requires : tie.Need-write-requires
 write-requires c κs = search needs

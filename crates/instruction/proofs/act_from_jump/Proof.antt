@@ -1,11 +1,11 @@
 -- `act_from_jump` goes by the code; each arm is the table's action.
 use native.Mathlib.Omega.{arith}
 use borrow.Author.Needs.{needs}
-use Rattle.interpreter.proofs.Laws.{beyond, last-action}
-use Rattle.interpreter.proofs.Laws.{last-action}
-use Rattle.interpreter.specs.Instruction.{action, sets}
-use Rattle.interpreter.proofs.act_from_jump.Statement.{statement}
-use Rattle.interpreter.proofs.act_from_jump.Tie as tie
+use Rattle.instruction.proofs.Laws.{beyond, last-action}
+use Rattle.instruction.proofs.Laws.{last-action}
+use Rattle.instruction.specs.Instruction.{action, sets}
+use Rattle.instruction.proofs.act_from_jump.Statement.{statement}
+use Rattle.instruction.proofs.act_from_jump.Tie as tie
 
 jump-requires : tie.Need-jump-requires
 jump-requires c κs = search needs

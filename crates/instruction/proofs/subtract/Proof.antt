@@ -1,8 +1,8 @@
 -- `subtract` reads, then sets AC to the difference.
 use borrow.Author.Needs.{needs}
-use Rattle.interpreter.specs.Instruction.{gains, sets}
-use Rattle.interpreter.proofs.subtract.Statement.{statement}
-use Rattle.interpreter.proofs.subtract.Tie as tie
+use Rattle.instruction.specs.Instruction.{gains, sets}
+use Rattle.instruction.proofs.subtract.Statement.{statement}
+use Rattle.instruction.proofs.subtract.Tie as tie
 
 word-at-requires : tie.Need-word-at-requires
 word-at-requires c κs = search needs

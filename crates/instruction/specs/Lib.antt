@@ -1,0 +1,3 @@
+pub mod Instruction
+pub mod Handed
+pub mod Writes
