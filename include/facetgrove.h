@@ -6,7 +6,7 @@
  *    #include "facetgrove.h"
  *
  *    int main(void) {
- *        uint16_t memory[4096] = {0x9005, 0x1FFE}, log[8] = {0}, none[1], registers[3] = {0};
+ *        uint16_t memory[4096] = {0x9005, 0x1FFE}, log[8] = {0}, none[1] = {0}, registers[3] = {0};
  *        size_t state[2] = {0};
  *        uint64_t told[2];
  *        uint32_t answer = facetgrove_interpreter_run(memory, 4096, none, 0, log, 8, registers, state, 2, told);
