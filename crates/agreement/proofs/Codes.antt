@@ -4,7 +4,7 @@ use mathlib.Core.Path.{_≡_, refl, ap, sym, _∙_}
 use mathlib.Core.List.{List, [], _∷_, _++_}
 use mathlib.Core.Bool.{Bool, true, false, cond}
 use native.Mathlib.Omega.{arith}
-use native.Mathlib.Decide.{ℕ-discrete, decLt}
+use native.Mathlib.Decide.{decLt}
 use native.Mathlib.Nat.{add-comm}
 use lib.ListN.{length, getD, set}
 use lib.Bits.{and-mask}
@@ -20,6 +20,7 @@ use Rattle.datapath.specs.Transfer.{waits, completedRead, completedWrite, reads
 use Rattle.microword.specs.Microword.{fieldsOf}
 use Rattle.engine.specs.Cycle.{State, Cycled, result, stored, transfer, target, nextLine, driven}
 use Rattle.instruction.specs.Instruction.{State as Cpu, Act, at, sets, writes as sends, gains, jumps as goes, action}
+use Rattle.instruction.proofs.Laws.{Each, none, _also_}
 use Rattle.printed.specs.Printed.{printed}
 use Rattle.agreement.specs.Cycles.{cost}
 use Rattle.agreement.specs.Demand.{seen}
@@ -132,16 +133,6 @@ less : (i : ℕ) → (i + 65535) % 4096 ≡ (i + 4095) % 4096
 less i = omega arith
 
 ruleset sums = (masked, low, cut, less)
-
--- A proof for each number below n.
-infixl 20 _also_
-pub data Each (P : ℕ → Type 0) : ℕ → Type 0 where
-  none : Each P 0
-  _also_ : {n : ℕ} → Each P n → P n → Each P (suc n)
-
-pub each : {P : ℕ → Type 0} {n : ℕ} → Each P n → (k : ℕ) → k < n → P k
-each none k h = let z : ⊥ = omega arith in absurd z
-each {P} (_also_ {n} ps p) k h = elim (ℕ-discrete k n) [ yes e ↦ rw e p | no d ↦ each ps k (omega arith) ]
 
 module _ (input : List ℕ) (c : Cpu) (small : c .pp % 4096 ≡ c .pp) (ri rt rem i : ℕ) where
   -- By an action that is written as the engine computes it.

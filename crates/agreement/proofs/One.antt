@@ -1,50 +1,27 @@
 -- One instruction and the printed microprogram's cycles agree: lines 0 and 1 fetch, then the code's row of `Codes` does the rest.
-use Prim.Native.Nat.{ℕ, suc, _+_, _-_, _/_, _%_, _≤_, _<_}
+use Prim.Native.Nat.{ℕ, suc, _+_, _-_, _/_, _%_, _<_}
 use mathlib.Core.Path.{_≡_, refl, ap, sym, subst, _∙_}
 use mathlib.Core.List.{List, [], _∷_, _++_}
 use mathlib.Core.Bool.{Bool, true, false, cond, true≢false}
 use native.Mathlib.Omega.{arith}
-use lib.ListN.{length, getD, set}
+use lib.ListN.{length, getD}
 use lib.Seq.{ext-getD}
-use lib.Dec.{leb, ltb, eqb}
-use Rattle.bus.specs.declared.Fetched.{Fetched}
-use Rattle.bus.specs.Ports.{Left, flag, nextInput, readAt}
+use Rattle.bus.specs.Ports.{Left}
 use Rattle.datapath.specs.declared.Half.{Half}
-use Rattle.datapath.specs.declared.Half.the-variants.{Nothing}
 use Rattle.datapath.specs.Result.{alu, jumps, keeps}
 use Rattle.datapath.specs.Transfer.{waits, completedRead, reads, transferred}
 use Rattle.microword.specs.Microword.{fieldsOf}
-use Rattle.engine.specs.Cycle.{State, Cycled, result, stored, transfer, target, driven, settled, cycle}
-use Rattle.engine.specs.Run.{Ended, plus, cycles}
+use Rattle.engine.specs.Cycle.{State, result, stored, transfer, target, driven, settled, cycle}
+use Rattle.engine.specs.Run.{plus, cycles}
 use Rattle.engine.proofs.Runs.{chained}
 use Rattle.instruction.specs.Instruction.{State as Cpu, Act, at, fetched, past, acted, instruct}
+use Rattle.instruction.proofs.Laws.{Each, none, _also_, each}
+use Rattle.instruction.proofs.Widths.{read-fits}
 use Rattle.printed.specs.Printed.{printed}
-use Rattle.agreement.specs.Demand.{seen, Ready, Words, Fits, ran, strays, Carried, Stopped, Agrees}
+use Rattle.agreement.specs.Demand.{seen, Ready, Words, Fits, Carried, Stopped, Agrees}
 use Rattle.agreement.specs.Cycles.{cost}
-use Rattle.agreement.proofs.Walk.{Walk, walk, led, tests, test, fieldsAt, Leads, walked, unrolled}
-use Rattle.agreement.proofs.Codes.{arrives, due, stands, bits, condition, holds, report, wanted, codes, Each, none, _also_, each, decoded, cut}
-
--- Every word read fits 16 bits.
-record Word (r : Fetched) : Type 0 where
-  fits : r .word < 65536
-
-flag-fits : (b : Bool) → flag b < 65536
-flag-fits true = omega arith
-flag-fits false = omega arith
-
-zero-fits : 0 < 65536
-zero-fits = omega arith
-
-either : (q : Bool) (a b : Fetched) → Word a → Word b → Word (cond q a b)
-either true a b x y = x
-either false a b x y = y
-
-word : (memory input : List ℕ) (place : ℕ) (room : Bool) (x : ℕ) → Words memory → Words input → Word (readAt memory input place room x)
-unfolding readAt nextInput
-word memory input place room x hm hi = search (either, flag-fits, zero-fits) depth 9
-
-pub read-fits : (memory input : List ℕ) (place : ℕ) (room : Bool) (x : ℕ) → Words memory → Words input → readAt memory input place room x .word < 65536
-read-fits memory input place room x hm hi = word memory input place room x hm hi .fits
+use Rattle.agreement.proofs.Walk.{walk, led, tests, test, fieldsAt, Leads, walked, unrolled}
+use Rattle.agreement.proofs.Codes.{arrives, due, stands, bits, condition, holds, report, wanted, codes, decoded, cut}
 
 -- Lines 0 and 1, as the engine computes them and as the interpreter says it.
 fetching-raw : (input : List ℕ) (c : Cpu) (ri rt rem rdm n : ℕ) (bs : List Bool) → walk printed input (suc (suc n)) bs (stands 0 c ri rt rem rdm)

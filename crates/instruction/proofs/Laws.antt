@@ -1,7 +1,7 @@
 -- Laws of one instruction.
 use Prim.Native.Nat.{ℕ, suc, _≤_, _<_}
 use mathlib.Core.Path.{_≡_, refl, sym, _∙_, ap}
-use mathlib.Core.Bool.{Bool, true, false, cond, not, true≢false}
+use mathlib.Core.Bool.{Bool, true, false, cond, true≢false}
 use mathlib.Core.List.{List, [], _∷_}
 use native.Mathlib.Decide.{ℕ-discrete}
 use native.Mathlib.Omega.{arith}
@@ -13,18 +13,18 @@ use Rattle.word.specs.Number.{field, kept}
 use Rattle.bus.specs.Ports.{Left, sent}
 use Rattle.bus.specs.Log.{Sent, after}
 use Rattle.bus.proofs.Laws.{leaves}
-use Rattle.instruction.specs.Instruction.{State, Act, at, below, above, named, sets, writes, gains, jumps, action, fetched, past, acted, instruct}
+use Rattle.instruction.specs.Instruction.{State, Act, at, above, named, sets, writes, gains, jumps, action, fetched, past, acted, instruct}
 use Rattle.instruction.specs.Handed.{actBy}
 use Rattle.instruction.specs.declared.Acted.{Acted}
 use Rattle.instruction.specs.Writes.{one, sends, completed, foundIn, leftIn}
 
 -- A proof for each number below n.
 infixl 20 _also_
-data Each (P : ℕ → Type 0) : ℕ → Type 0 where
+pub data Each (P : ℕ → Type 0) : ℕ → Type 0 where
   none : Each P 0
   _also_ : {n : ℕ} → Each P n → P n → Each P (suc n)
 
-each : {P : ℕ → Type 0} {n : ℕ} → Each P n → (k : ℕ) → k < n → P k
+pub each : {P : ℕ → Type 0} {n : ℕ} → Each P n → (k : ℕ) → k < n → P k
 each none k h = let z : ⊥ = omega arith in absurd z
 each {P} (_also_ {n} ps p) k h = elim (ℕ-discrete k n) [ yes e ↦ rw e p | no d ↦ each ps k (omega arith) ]
 

@@ -1,17 +1,15 @@
 -- Laws of instructions below the ports: what each kind of action does there, and how a part of a run goes on.
-use Prim.Native.Nat.{ℕ, zero, suc, _+_, _-_, _*_, _≤_, _<_}
+use Prim.Native.Nat.{ℕ, _+_, _-_, _*_, _≤_, _<_}
 use mathlib.Core.Path.{_≡_, refl, sym, _∙_, ap}
-use mathlib.Core.Bool.{Bool, true, false, cond, true≢false}
+use mathlib.Core.Bool.{true, false, true≢false}
 use mathlib.Core.List.{List, []}
 use native.Mathlib.Omega.{arith}
 use lib.ListN.{length, getD, set}
-use lib.Dec.{ltb}
 use borrow.Author.Tests.{lt-ltb}
-use Rattle.word.specs.declared.Address.{Address}
-use Rattle.word.specs.Number.{field, kept, sum, difference}
+use Rattle.word.specs.Number.{field, kept, sum}
 use Rattle.bus.specs.declared.Fetched.{Fetched}
 use Rattle.bus.specs.Ports.{readAt, writeAt, goes, sent}
-use Rattle.instruction.specs.Instruction.{State, Act, at, sets, writes, gains, jumps, fetched, past, acted, action, instruct}
+use Rattle.instruction.specs.Instruction.{State, Act, at, sets, writes, gains, fetched, past, acted, action, instruct}
 use Rattle.interpreter.specs.BelowPorts.{Beside, Plain, Onward, stateWith, copies, returns, pops}
 use Rattle.interpreter.specs.Run.{instructions, plus}
 use Rattle.instruction.specs.Instruction.{stateOf}

@@ -1,20 +1,18 @@
 -- Laws of a run.
 use Prim.Native.Nat.{ℕ, zero, suc, _+_, _-_, _≤_, _<_}
 use mathlib.Core.Path.{_≡_, refl, sym, _∙_, ap}
-use mathlib.Core.Bool.{Bool, true, false, cond, not, true≢false}
+use mathlib.Core.Bool.{Bool, true, false, cond, not}
 use mathlib.Core.List.{List, [], _∷_, _++_}
 use native.Mathlib.Nat.{add-zero, zero-add, add-assoc, suc-add}
 use native.Mathlib.Omega.{arith}
 use lib.ListN.{length, getD, take, drop, length-append}
 use lib.Seq.{take-all}
-use lib.Dec.{ltb, eqb}
-use borrow.Author.Tests.{eqb-true, ltb-true}
-use Rattle.word.specs.Number.{kept}
-use Rattle.bus.specs.Ports.{Left, goes, sent, logged, writeAt}
+use lib.Dec.{eqb}
+use borrow.Author.Tests.{eqb-true}
+use Rattle.bus.specs.Ports.{Left, sent}
 use Rattle.bus.specs.Log.{Sent, after, toLog, room, Took}
-use Rattle.bus.proofs.Laws.{leaves}
 use Rattle.bus.proofs.Laws as bus
-use Rattle.instruction.specs.Instruction.{State, Act, at, writes, past, instruct}
+use Rattle.instruction.specs.Instruction.{State, Act, past, instruct}
 use Rattle.interpreter.specs.Run.{Ended, plus, onwards, instructions, refusal, number, endedBy}
 use Rattle.instruction.specs.Writes.{completed, foundIn}
 use Rattle.interpreter.specs.Writes.{completedBy}
@@ -146,53 +144,19 @@ counted input (suc n) s = by (instruct input s .full) (instructions input n (ins
           fewer = λ e. (let d : rest .done < n = c .fewer e in omega arith);
         }
 
--- What completed writes come to, one after the other.
-after-append : (ss ss′ : List Sent) (at : Left) → after (ss ++ ss′) at ≡ after ss′ (after ss at)
-unfolding after
-after-append [] ss′ at = refl
-after-append (sent ∷ ss) ss′ at = after-append ss ss′ (writeAt (at .memory) (at .log) (at .count) (sent .address) (sent .word))
-
-toLog-append : (ss ss′ : List Sent) → toLog (ss ++ ss′) ≡ toLog ss ++ toLog ss′
-unfolding toLog
-toLog-append [] ss′ = refl
-toLog-append (sent ∷ ss) ss′ = by (eqb (sent .address) 4094) (sent .word) (toLog ss) (toLog (ss ++ ss′)) (toLog-append ss ss′)
-  where
-    by : (b : Bool) (word : ℕ) (words joint : List ℕ) → joint ≡ words ++ toLog ss′ → cond b (word ∷ joint) joint ≡ cond b (word ∷ words) words ++ toLog ss′
-    by true word words joint e = ap (λ (l : List ℕ). word ∷ l) e
-    by false word words joint e = e
-
 -- Memory keeps its length and the words under its ports.
 pub record Spared (before later : List ℕ) : Type 0 where
   pub words : length later ≡ length before
   pub ports : (place : ℕ) → 4092 ≤ place → getD later place 0 ≡ getD before place 0
 
 spared : (ss : List Sent) (at : Left) → Spared (at .memory) (after ss at .memory)
-unfolding after
-spared [] at = record { words = refl; ports = λ place h. refl }
-spared (sent ∷ ss) at =
-    let here = leaves (at .memory) (at .log) (at .count) (sent .address) (sent .word) in
-    let rest = spared ss (writeAt (at .memory) (at .log) (at .count) (sent .address) (sent .word)) in
-    record { words = rest .words ∙ here .words; ports = λ place h. rest .ports place h ∙ here .ports place h }
+spared ss at = record { words = bus.after-words ss at; ports = bus.after-ports ss at }
 
 -- A word that was not refused found room.
-fits : (memory log : List ℕ) (count word : ℕ) → writeAt memory log count 4094 word .full ≡ false → count < length log
-unfolding writeAt goes sent logged
-fits memory log count word f = by (ltb count (length log)) refl
-  where
-    by : (b : Bool) → ltb count (length log) ≡ b → count < length log
-    by true e = ltb-true count (length log) e
-    by false e = absurd (true≢false (rw e at f))
-
 found-room : (ss : List Sent) → length ss ≤ 1 → (at : Left) → after ss at .full ≡ false → length (toLog ss) ≤ room at
 unfolding after toLog
 found-room [] h at f = omega arith
-found-room (sent ∷ []) h at f = by (eqb (sent .address) 4094) refl
-  where
-    by : (b : Bool) → eqb (sent .address) 4094 ≡ b → length (cond b (sent .word ∷ []) []) ≤ room at
-    by true e =
-        let l : at .count < length (at .log) = fits (at .memory) (at .log) (at .count) (sent .word) (rw (eqb-true (sent .address) 4094 e) at f) in
-        omega arith
-    by false e = omega arith
+found-room (sent ∷ []) h at f = bus.has-room (at .memory) (at .log) (at .count) (sent .address) (sent .word) f
 found-room (sent ∷ other ∷ ss) h at f = let z : ⊥ = omega arith in absurd z
 
 -- Of a run: memory, log and count are what its completed writes, in turn, make of them.
@@ -207,7 +171,7 @@ run-leaves input (suc n) s =
         → foundIn (onwards b (instruct input s) rest .state)
         ≡ after (cond b [] (completed input s ++ completedBy input n (instruct input s .next))) (foundIn s)
     by true f rest e = rw (refused-leaves input s f)
-    by false f rest e = e ∙ rw (instruct-leaves input s, after-append)
+    by false f rest e = e ∙ rw (instruct-leaves input s, bus.after-append)
 
 -- Every word that a run sent to the log found room there.
 all-fit : (input : List ℕ) (n : ℕ) (s : State) → s .count ≤ length (s .log) → length (toLog (completedBy input n s)) ≤ room (foundIn s)
@@ -226,7 +190,7 @@ all-fit input (suc n) s h =
         → length (toLog (completedBy input n (instruct input s .next))) ≤ room (foundIn (instruct input s .next))
         → length (toLog (cond b [] (completed input s ++ completedBy input n (instruct input s .next)))) ≤ room (foundIn s)
     by true one left rest = omega arith
-    by false one left rest = rw (toLog-append, length-append) (omega arith)
+    by false one left rest = rw (bus.to-log-append, length-append) (omega arith)
 
 -- After any run the log is its former words followed, in order, by every word that the completed writes sent to 4094, and nothing
 -- else; the room past them is as found.
