@@ -1,7 +1,4 @@
 pub mod Filled
 pub mod Normal
-pub mod Printed
-pub mod Pieces
-pub mod Relisted
 pub mod Laws
 pub mod Figures

@@ -1,4 +1,4 @@
--- The way back for the two functions: the lister's answer 0 puts the listing at the room's start, and `listing-back` of the assembler
+-- The way back for the two functions: the lister's answer 0 puts the listing at the room's start, and `listing-back`
 -- reads it; the normal forms have the same lines, since a line never shows a field without use.
 use Prim.Native.Nat.{ℕ, suc, _≤_, _<_}
 use mathlib.Core.Path.{_≡_, refl, sym, _∙_, ap}
@@ -15,7 +15,7 @@ use Rattle.microtext.specs.Listing.{line, lines, upTo, shown, listing}
 use Rattle.lister.specs.Answers.{Outcome, refused, done, listed}
 use Rattle.lister.proofs.Laws.{line-normal}
 use Rattle.assembler.specs.Assembled.{assembled}
-use Rattle.assembler.proofs.Laws.{AllGood, listing-back}
+use Rattle.way_back.proofs.Reading.{AllGood, listing-back}
 use Rattle.way_back.specs.Back.{text, Back}
 
 -- The normal forms have the same lines.

@@ -14,7 +14,7 @@ use Rattle.microtext.specs.declared.Part.{Part}
 use Rattle.microtext.proofs.Tests.{both}
 use Rattle.microtext.proofs.Scan.{every-more, same-pair}
 use Rattle.microtext.proofs.Whole.{divided-some}
-use Rattle.assembler.proofs.Printed.{undivided}
+use Rattle.way_back.proofs.Printed.{undivided}
 
 -- A byte that goes on with no token: no letter, no digit, and none that ends `:=`, `<<` or `>>`.
 abbrev pub apart : ℕ → Bool

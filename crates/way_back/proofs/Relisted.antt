@@ -20,9 +20,9 @@ use Rattle.microtext.specs.Listing.{decimal}
 use Rattle.microtext.specs.declared.Part.{Part}
 use Rattle.microtext.specs.declared.Part.the-variants.{Operation, Transfer, Jump}
 use Rattle.microtext.specs.declared.Meaning.the-variants.{Word}
 use Rattle.assembler.proofs.Normal.{neither}
-use Rattle.assembler.proofs.Printed.{Back, second, target, operation-back, rd-back, wr-back, jump-back, number-back, undivided}
-use Rattle.assembler.proofs.Pieces.{spaced, tokens-split, colon-first, AllUndivided, parts-back}
+use Rattle.way_back.proofs.Printed.{Back, second, target, operation-back, rd-back, wr-back, jump-back, number-back, undivided}
+use Rattle.way_back.proofs.Pieces.{spaced, tokens-split, colon-first, AllUndivided, parts-back}
 
 -- Something that is there or not.
 abbrev pub when : {A : Type 0} → Bool → A → List A
