@@ -5,6 +5,9 @@ ghost use Rattle.datapath.specs.Result.{alu, negative, isZero, jumps, ke
 ghost use Rattle.datapath.specs.Transfer.{reads, writes, transferred, moved};
 use word::Address;
 
+// The bits that each register keeps: of CP, PP and REM the low 12.
+const KEPT: [u16; 8] = [4095, 65535, 4095, 65535, 65535, 65535, 4095, 65535];
+
 // What a cycle leaves half done.
 pub enum Half {
     Nothing,
@@ -41,22 +44,21 @@ pub fn compute(f: u32, a: u16, b: u16) -> u16
 pub fn keep_in(register: u32, value: u16) -> u16
     ensures { λ r. ⌜ r ≡ keeps register value ⌝ }
 {
-    match register {
-        0 | 2 | 6 => word::keep(value, 12),
-        _ => value,
+    if 8 <= register {
+        return value;
     }
+    let k = register as usize;
+    value & KEPT[k]
 }
 
 // Whether SQ sends this cycle to END, by N and Z of its full result.
 pub fn does_jump(sq: u32, result: u16) -> bool
     ensures { λ r. ⌜ r ≡ jumps sq (negative result) (isZero result) ⌝ }
 {
-    match sq {
-        0 => false,
-        1 => 32768 <= result,
-        2 => result == 0,
-        _ => true,
+    if 3 <= sq {
+        return true;
     }
+    ((sq == 1) & (32768 <= result)) | ((sq == 2) & (result == 0))
 }
 
 fn left(half: Half, rdm: u16, place: usize, count: usize) -> Moved

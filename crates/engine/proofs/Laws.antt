@@ -1,7 +1,7 @@
 -- Laws of a cycle and of a run: what a refused cycle leaves, how a run goes on, stops and ends, and no second answer.
 use Prim.Native.Nat.{ℕ, zero, suc, _+_, _-_, _<_, _≤_}
-use mathlib.Core.Path.{_≡_, refl, sym, _∙_, ap}
-use mathlib.Core.Bool.{Bool, true, false, cond, not, _&&_, true≢false}
+use mathlib.Core.Path.{_≡_, refl, sym, _∙_, ap, subst}
+use mathlib.Core.Bool.{Bool, true, false, cond, not, _&&_, _||_, true≢false}
 use mathlib.Core.List.{List}
 use mathlib.Core.Logic.{_⊎_, inl, inr, ⊎-elim}
 use native.Mathlib.Nat.{add-zero, zero-add, add-assoc}
@@ -9,20 +9,23 @@ use native.Mathlib.Omega.{arith}
 use lib.ListN.{length, getD, set}
 use lib.Seq.{set-set, set-getD}
 use lib.Dec.{ltb, eqb}
+use borrow.Author.Tests.{eqb-true, ltb-false}
 use Rattle.datapath.specs.declared.Moved.{Moved}
 use Rattle.datapath.specs.declared.Half.{Half}
 use Rattle.datapath.specs.declared.Half.the-variants.{Nothing}
-use Rattle.datapath.specs.Result.{keeps}
+use Rattle.datapath.specs.Result.{keeps, negative, isZero, jumps}
 use Rattle.datapath.specs.Transfer.{Found, Transfer, moved, waits, transferred, leftIn}
 use Rattle.datapath.proofs.Laws.{transfer-refused, rdm-stays}
 use Rattle.bus.specs.Ports.{Left}
 use Rattle.microword.specs.declared.Fields.{Fields}
-use Rattle.microword.specs.Microword.{fieldsOf}
+use Rattle.microword.specs.Microword.{fieldsOf, firstBad}
+use Rattle.microword.proofs.Laws.{fields-within}
+use Rattle.word.specs.Number.{sum}
 use Rattle.word.specs.declared.Line.{Line}
-use Rattle.engine.specs.Cycle.{State, Cycled, controlWord, result, stored, transfer, nextLine, arrived, driven, settled, cycle}
-use Rattle.engine.specs.Run.{Ended, Said, says, saying, plus, onwards, cycles, stateOf, endedBy}
-use Rattle.engine.specs.Core.{machineOf, joined, stepped}
-use Rattle.engine.specs.declared.Core.{Core}
+use Rattle.word.proofs.Laws.{kept-below}
+use Rattle.engine.specs.Cycle.{State, Cycled, register, controlWord, result, stored, transfer, target, nextLine, arrived, driven, settled, cycle}
+use Rattle.engine.specs.Run.{Ended, Said, says, saying, refusal, plus, onwards, cycles, stateOf, endedBy}
+use Rattle.engine.specs.Standing.{standing, stepped}
 use Rattle.engine.specs.declared.Ran.{Ran}
 
 -- Putting back what stood in S undoes the store.
@@ -33,16 +36,16 @@ restored m value registers true e = rw (e, set-set) (set-getD registers (m .s) 0
 restored m value registers false e = rw e (set-getD registers (m .s) 0)
 
 -- What the code did up to the transfer, and what the transfer left.
-pub record Transferred (store input : List ℕ) (core : Core) (registers memory log : List ℕ) (m : Fields) (value : ℕ)
-    (registers₁ : List ℕ) (r : Moved) (memory₂ log₂ : List ℕ) : Type 0 where
-  pub fields : m ≡ fieldsOf (controlWord store (core .line .0))
+pub record Transferred (store input : List ℕ) (line : Line) (half : Half) (place count : ℕ) (registers memory log : List ℕ) (m : Fields)
+    (value : ℕ) (registers₁ : List ℕ) (r : Moved) (memory₂ log₂ : List ℕ) : Type 0 where
+  pub fields : m ≡ fieldsOf (controlWord store (line .0))
   pub computed : value ≡ result m registers
   pub kept : registers₁ ≡ stored m value registers
-  pub moves : transferred (eqb (m .rd) 1) (eqb (m .wr) 1) input (core .half) (record { rem = getD registers₁ 6 0; rdm = getD registers₁ 7 0; place = core .place; count = core .count; memory = memory; log = log }) ≡ moved r memory₂ log₂
+  pub moves : transferred (eqb (m .rd) 1) (eqb (m .wr) 1) input half (record { rem = getD registers₁ 6 0; rdm = getD registers₁ 7 0; place = place; count = count; memory = memory; log = log }) ≡ moved r memory₂ log₂
 
-module _ {store input : List ℕ} {core : Core} {registers memory log : List ℕ} {m : Fields} {value : ℕ} {registers₁ : List ℕ} {r : Moved} {memory₂ log₂ : List ℕ} (t : Transferred store input core registers memory log m value registers₁ r memory₂ log₂) where
-  is-driven : driven (fieldsOf (controlWord store (core .line .0))) input (joined core registers memory log)
-      ≡ arrived (nextLine m value (core .line .0)) registers₁ (moved r memory₂ log₂)
+module _ {store input : List ℕ} {line : Line} {half : Half} {place count : ℕ} {registers memory log : List ℕ} {m : Fields} {value : ℕ} {registers₁ : List ℕ} {r : Moved} {memory₂ log₂ : List ℕ} (t : Transferred store input line half place count registers memory log m value registers₁ r memory₂ log₂) where
+  is-driven : driven (fieldsOf (controlWord store (line .0))) input (standing line half place count registers memory log)
+      ≡ arrived (nextLine m value (line .0)) registers₁ (moved r memory₂ log₂)
   unfolding driven transfer
   is-driven = rw (← t .fields, ← t .computed, ← t .kept, t .moves)
 
@@ -50,45 +53,89 @@ module _ {store input : List ℕ} {core : Core} {registers memory log : List ℕ
   same-rdm : (rd : Bool) → eqb (m .rd) 1 ≡ rd → cond rd (set registers₁ 7 (r .rdm)) registers₁ ≡ set registers₁ 7 (r .rdm)
   same-rdm true e = refl
   same-rdm false e =
-      let w : r .rdm ≡ getD registers₁ 7 0 = sym (ap (λ (x : Transfer). x .rdm) (rw e at (t .moves))) ∙ rdm-stays (eqb (m .wr) 1) input (core .half) _ in
+      let w : r .rdm ≡ getD registers₁ 7 0 = sym (ap (λ (x : Transfer). x .rdm) (rw e at (t .moves))) ∙ rdm-stays (eqb (m .wr) 1) input half _ in
       rw w (sym (set-getD registers₁ 7 0))
 
-  pub carried : {line : Line} → r .full ≡ false → line .0 ≡ nextLine m value (core .line .0)
-      → cycle store input (joined core registers memory log)
-      ≡ stepped (record { core = record { line = line; half = r .half; place = r .place; count = r .count }; full = false }) (cond (eqb (m .rd) 1) (set registers₁ 7 (r .rdm)) registers₁) memory₂ log₂
+  pub carried : {next : Line} → r .full ≡ false → next .0 ≡ nextLine m value (line .0)
+      → cycle store input (standing line half place count registers memory log)
+      ≡ stepped (record { line = next; half = r .half; place = r .place; count = r .count; full = false }) (cond (eqb (m .rd) 1) (set registers₁ 7 (r .rdm)) registers₁) memory₂ log₂
   unfolding cycle settled
   carried f l = rw (is-driven, f, l, same-rdm _ refl)
 
-  pub refused : r .full ≡ true → cycle store input (joined core registers memory log)
-      ≡ stepped (record { core = core; full = true }) (set registers₁ (m .s) (getD registers (m .s) 0)) memory₂ log₂
+  pub refused : r .full ≡ true → cycle store input (standing line half place count registers memory log)
+      ≡ stepped (record { line = line; half = half; place = place; count = count; full = true }) (set registers₁ (m .s) (getD registers (m .s) 0)) memory₂ log₂
   unfolding cycle settled
   refused f =
-      let e : leftIn (moved r memory₂ log₂) ≡ record { memory = memory; log = log; count = core .count; full = true } =
-      rw (t .moves) at (transfer-refused (eqb (m .rd) 1) (eqb (m .wr) 1) input (core .half) _ (ap (λ (x : Transfer). x .full) (t .moves) ∙ f)) in
+      let e : leftIn (moved r memory₂ log₂) ≡ record { memory = memory; log = log; count = count; full = true } =
+      rw (t .moves) at (transfer-refused (eqb (m .rd) 1) (eqb (m .wr) 1) input half _ (ap (λ (x : Transfer). x .full) (t .moves) ∙ f)) in
       rw (is-driven, f, t .kept, restored m value registers _ refl, ap (λ (x : Left). x .memory) e, ap (λ (x : Left). x .log) e)
 
 -- What the code did where there is neither RD nor WR.
-pub record Rested (store : List ℕ) (core : Core) (registers : List ℕ) (m : Fields) (value : ℕ) (registers₁ : List ℕ) (line : Line) : Type 0 where
-  pub fields : m ≡ fieldsOf (controlWord store (core .line .0))
+pub record Rested (store : List ℕ) (line : Line) (registers : List ℕ) (m : Fields) (value : ℕ) (registers₁ : List ℕ) (next : Line) : Type 0 where
+  pub fields : m ≡ fieldsOf (controlWord store (line .0))
   pub computed : value ≡ result m registers
   pub kept : registers₁ ≡ stored m value registers
   pub neither : (not (eqb (m .rd) 1) && not (eqb (m .wr) 1)) ≡ true
-  pub next : line .0 ≡ nextLine m value (core .line .0)
+  pub on : next .0 ≡ nextLine m value (line .0)
 
 -- Nothing is transferred, and RDM is what stands there.
-pub rests : {store : List ℕ} {core : Core} {registers : List ℕ} {m : Fields} {value : ℕ} {registers₁ : List ℕ} {line : Line} (input memory log : List ℕ)
-    → Rested store core registers m value registers₁ line
-    → cycle store input (joined core registers memory log)
-    ≡ stepped (record { core = record { line = line; half = Nothing; place = core .place; count = core .count }; full = false }) registers₁ memory log
+pub rests : {store : List ℕ} {line : Line} {registers : List ℕ} {m : Fields} {value : ℕ} {registers₁ : List ℕ} {next : Line} (half : Half) (place count : ℕ) (input memory log : List ℕ)
+    → Rested store line registers m value registers₁ next
+    → cycle store input (standing line half place count registers memory log)
+    ≡ stepped (record { line = next; half = Nothing; place = place; count = count; full = false }) registers₁ memory log
 unfolding cycle settled driven transfer transferred waits
-rests {m = m} {registers₁ = registers₁} input memory log r =
+rests {m = m} {registers₁ = registers₁} half place count input memory log r =
     let n : (eqb (m .rd) 1 ≡ false) × (eqb (m .wr) 1 ≡ false) = both (eqb (m .rd) 1) (eqb (m .wr) 1) (r .neither) in
-    rw (← r .fields, ← r .computed, ← r .kept, n .0, n .1, set-getD registers₁ 7 0, r .next)
+    rw (← r .fields, ← r .computed, ← r .kept, n .0, n .1, set-getD registers₁ 7 0, r .on)
   where
     both : (a b : Bool) → (not a && not b) ≡ true → (a ≡ false) × (b ≡ false)
     both true b e = absurd (true≢false (sym e))
     both false true e = absurd (true≢false (sym e))
     both false false e = (refl, refl)
+
+-- A cycle that starts at one of the 64 lines ends at one.
+settled-within : (s : State) (c : Cycled) → s .line < 64 → c .next .line < 64 → settled s c .next .line < 64
+unfolding settled
+settled-within s c h g = by (c .full) refl
+  where
+    by : (full : Bool) → c .full ≡ full → cond full (record { next = s; full = true }) c .next .line < 64
+    by true e = h
+    by false e = g
+
+next-within : (m : Fields) (value line : ℕ) → m .end < 64 → nextLine m value line < 64
+unfolding nextLine target
+next-within m value line h = by (jumps (m .sq) (negative value) (isZero value))
+  where
+    by : (jump : Bool) → cond jump (m .end) (sum 6 line 1) < 64
+    by true = h
+    by false = kept-below 6 (line + 1)
+
+pub line-within : (store input : List ℕ) (s : State) {a : Cycled} → s .line < 64 → cycle store input s ≡ a → a .next .line < 64
+unfolding cycle driven
+line-within store input s h e =
+    let m : Fields = fieldsOf (controlWord store (s .line)) in
+    subst (λ (c : Cycled). c .next .line < 64) e
+    (settled-within s (driven m input s) h (next-within m (result m (s .registers)) (s .line) (fields-within (controlWord store (s .line)) .end)))
+
+-- A run that is not refused has a store of 64 words and starts at one of its lines.
+pub runs-within : (store input : List ℕ) (s : State) → refusal store input s .number ≡ 0 → (length store ≡ 64) × (s .line < 64)
+unfolding refusal
+runs-within store input s e =
+    by
+    (not (eqb (length (s .memory)) 4096)) (eqb (length store) 64) refl (ltb (length input) (s .place) || ltb (length (s .log)) (s .count))
+    (ltb 4095 (register 0 s)) (ltb 4095 (register 2 s)) (ltb 4095 (register 6 s)) (ltb 63 (s .line)) refl e
+  where
+    by : (memory words : Bool) → eqb (length store) 64 ≡ words → (places a b c line : Bool) → ltb 63 (s .line) ≡ line
+        → cond (memory || not words) (says 1) (cond places (says 2) (cond (a || b || c || line) (says 3) (cond (ltb (firstBad store) 64) (record { number = 4; line = firstBad store }) (says 0)))) .number ≡ 0
+        → (length store ≡ 64) × (s .line < 64)
+    by true words w places a b c line l e = absurd (omega arith)
+    by false false w places a b c line l e = absurd (omega arith)
+    by false true w true a b c line l e = absurd (omega arith)
+    by false true w false true b c line l e = absurd (omega arith)
+    by false true w false false true c line l e = absurd (omega arith)
+    by false true w false false false true line l e = absurd (omega arith)
+    by false true w false false false false true l e = absurd (omega arith)
+    by false true w false false false false false l e = (eqb-true _ _ w, omega (arith, ltb-false 63 (s .line) l))
 
 -- Nothing more.
 pub plus-none : (e : Ended) → plus 0 e ≡ e

@@ -1,3 +1,3 @@
 pub mod Cycle
 pub mod Run
-pub mod Core
+pub mod Standing

@@ -2,11 +2,11 @@
 ghost use mathlib.Core.Path.{_≡_};
 ghost use mathlib.Core.Bool.{cond, false};
 ghost use lib.Dec.{eqb};
-ghost use lib.ListN.{set};
-ghost use Rattle.engine.specs.Cycle.{controlWord, result, stored, nextLine, cycle};
+ghost use lib.ListN.{length, set};
+ghost use Rattle.engine.specs.Cycle.{result, stored, nextLine, cycle};
 ghost use Rattle.engine.specs.Run.{refusal, saying, cycles, runs, press, stateOf, endedBy, pressedBy};
 ghost use Rattle.datapath.specs.declared.Half.the-variants.{Nothing};
-ghost use Rattle.engine.specs.Core.{joined, stepped, machineOf};
+ghost use Rattle.engine.specs.Standing.{standing, stepped};
 ghost use Prim.Native.Nat.{_<_};
 use datapath::Half;
 use microword::Fields;
@@ -48,24 +48,13 @@ pub struct Pressed {
     pub machine: Machine,
 }
 
-// What a cycle changes beside registers, memory and log.
-struct Core {
+// What a cycle leaves beside registers, memory and log, and whether its write met a full log.
+struct Stepped {
     line: Line,
     half: Half,
     place: usize,
     count: usize,
-}
-
-struct Stepped {
-    core: Core,
     full: bool,
-}
-
-pub fn control_word(store: &[u32], line: Line) -> u32
-    ensures { λ r. ⌜ r ≡ controlWord (now (store .entry)) (line .0) ⌝ }
-{
-    let k = line.0 as usize;
-    if k < store.len() { store[k] } else { 0 }
 }
 
 fn next_line(m: Fields, value: u16, line: Line) -> Line
@@ -100,15 +89,13 @@ fn arrive(rd: u32, word: u16, registers: &mut [u16; 8])
 
 // A cycle with neither RD nor WR leaves nothing half done.
 fn rest(line: Line, place: usize, count: usize) -> Stepped
-    ensures { λ r. ⌜ r ≡ record { core = record { line = line; half = Nothing; place = place; count = count }; full = false } ⌝ }
+    ensures { λ r. ⌜ r ≡ record { line = line; half = Nothing; place = place; count = count; full = false } ⌝ }
 {
     Stepped {
-        core: Core {
-            line,
-            half: Half::Nothing,
-            place,
-            count,
-        },
+        line,
+        half: Half::Nothing,
+        place,
+        count,
         full: false,
     }
 }
@@ -120,22 +107,26 @@ fn step(
     input: &[u16],
     log: &mut [u16],
     registers: &mut [u16; 8],
-    core: Core,
+    line: Line,
+    half: Half,
+    place: usize,
+    count: usize,
 ) -> Stepped
-    ensures { λ r. ⌜ cycle (now (store .entry)) (now (input .entry)) (joined core (now (registers .entry)) (now (memory .entry)) (now (log .entry))) ≡ stepped r (now (registers .exit)) (now (memory .exit)) (now (log .exit)) ⌝ }
+    requires { ⌜ line .0 < length (now store) ⌝ }
+    ensures { λ r. ⌜ cycle (now (store .entry)) (now (input .entry)) (standing line half place count (now (registers .entry)) (now (memory .entry)) (now (log .entry))) ≡ stepped r (now (registers .exit)) (now (memory .exit)) (now (log .exit)) ⌝ }
 {
-    let m = microword::fields_of(control_word(store, core.line));
+    let k = line.0 as usize;
+    let m = microword::fields_of(store[k]);
     let a = m.a as usize;
     let b = m.b as usize;
     let s = m.s as usize;
     let value = datapath::compute(m.f, registers[a], registers[b]);
-    let line = next_line(m, value, core.line);
+    let next = next_line(m, value, line);
     let old = registers[s];
     store_value(m, value, registers);
     if (m.rd != 1) & (m.wr != 1) {
-        return rest(line, core.place, core.count);
+        return rest(next, place, count);
     }
-    let half = core.half;
     let moved = datapath::transfer(
         m.rd == 1,
         m.wr == 1,
@@ -145,22 +136,26 @@ fn step(
         memory,
         input,
         log,
-        core.place,
-        core.count,
+        place,
+        count,
     );
     if moved.full {
         registers[s] = old;
-        return Stepped { core, full: true };
+        return Stepped {
+            line,
+            half,
+            place,
+            count,
+            full: true,
+        };
     }
     arrive(m.rd, moved.rdm, registers);
     let half = moved.half;
     Stepped {
-        core: Core {
-            line,
-            half,
-            place: moved.place,
-            count: moved.count,
-        },
+        line: next,
+        half,
+        place: moved.place,
+        count: moved.count,
         full: false,
     }
 }
@@ -187,25 +182,31 @@ fn check(store: &[u32], memory: &[u16], input: &[u16], log: &[u16], machine: Mac
     Answer::Done
 }
 
-fn report(core: Core, registers: [u16; 8], done: u32, answer: Answer) -> Ran
-    ensures { λ r. ⌜ r ≡ record { machine = machineOf core registers; done = done; answer = answer } ⌝ }
+fn report(
+    line: Line,
+    half: Half,
+    place: usize,
+    count: usize,
+    registers: [u16; 8],
+    done: u32,
+    answer: Answer,
+) -> Ran
+    ensures { λ r. ⌜ r ≡ record { machine = record { line = line; registers = registers; half = half; place = place; count = count }; done = done; answer = answer } ⌝ }
 {
-    let line = core.line;
-    let half = core.half;
     Ran {
         machine: Machine {
             line,
             registers,
             half,
-            place: core.place,
-            count: core.count,
+            place,
+            count,
         },
         done,
         answer,
     }
 }
 
-// n cycles in turn.
+// n cycles in turn. What a cycle changes stands in variables of its own, which the compiler keeps in registers.
 fn repeat(
     store: &[u32],
     memory: &mut [u16],
@@ -214,27 +215,38 @@ fn repeat(
     machine: Machine,
     n: u32,
 ) -> Ran
+    requires { ⌜ length (now store) ≡ 64 ⌝ }
+    requires { ⌜ machine .line .0 < 64 ⌝ }
     ensures { λ r. ⌜ cycles (now (store .entry)) (now (input .entry)) n (stateOf machine (now (memory .entry)) (now (log .entry))) ≡ endedBy r (now (memory .exit)) (now (log .exit)) ⌝ }
 {
     let mut registers = machine.registers;
-    let line = machine.line;
-    let half = machine.half;
-    let mut core = Core {
-        line,
-        half,
-        place: machine.place,
-        count: machine.count,
-    };
+    let mut line = machine.line;
+    let mut half = machine.half;
+    let mut place = machine.place;
+    let mut count = machine.count;
     let mut done: u32 = 0;
     while done < n {
-        let t = step(store, memory, input, log, &mut registers, core);
-        core = t.core;
+        let t = step(
+            store,
+            memory,
+            input,
+            log,
+            &mut registers,
+            line,
+            half,
+            place,
+            count,
+        );
+        line = t.line;
+        half = t.half;
+        place = t.place;
+        count = t.count;
         if t.full {
-            return report(core, registers, done, Answer::LogFull);
+            return report(line, half, place, count, registers, done, Answer::LogFull);
         }
         done += 1;
     }
-    report(core, registers, done, Answer::Done)
+    report(line, half, place, count, registers, done, Answer::Done)
 }
 
 // A run of n cycles: refusals 1 to 4 before any cycle, then the cycles in turn.

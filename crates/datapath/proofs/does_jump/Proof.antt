@@ -1,24 +1,31 @@
--- `does_jump` goes by SQ; N is bit 15 of the result, Z that it is 0.
+-- `does_jump` goes by SQ, each value below 3 in turn; N is bit 15 of the result, Z that it is 0.
+use Prim.Native.Nat.{ℕ, zero, suc, _<_, _≤_}
+use mathlib.Core.Path.{_≡_, refl}
+use mathlib.Core.Bool.{Bool, true, false, _&&_, _||_}
+use native.Mathlib.Omega.{arith}
 use borrow.Author.Tests.{ne-eqb}
+use lib.Dec.{eqb}
 use Rattle.datapath.specs.Result.{jumps}
 use Rattle.datapath.proofs.does_jump.Statement.{statement}
 use Rattle.datapath.proofs.does_jump.Tie as tie
 
-returns : tie.Need-returns
+always : (sq : ℕ) (n z : Bool) → 3 ≤ sq → true ≡ jumps sq n z
 unfolding jumps
-returns c = rw (c .match .keys1)
+always sq n z l = simp (ne-eqb sq 0 (λ e. omega arith), ne-eqb sq 1 (λ e. omega arith), ne-eqb sq 2 (λ e. omega arith))
+
+by-flags : (sq : ℕ) (n z : Bool) → sq < 3 → ((eqb sq 1 && n) || (eqb sq 2 && z)) ≡ jumps sq n z
+unfolding jumps
+by-flags zero n z l = refl
+by-flags (suc zero) true z l = refl
+by-flags (suc zero) false z l = refl
+by-flags (suc (suc zero)) n z l = refl
+by-flags (suc (suc (suc sq))) n z l = absurd (omega arith)
+
+returns : tie.Need-returns
+returns c = always _ _ _ (c .if1 .taken)
 
 returns-2 : tie.Need-returns-2
-unfolding jumps
-returns-2 c = rw (c .match .keys2)
-
-returns-3 : tie.Need-returns-3
-unfolding jumps
-returns-3 c = rw (c .match .keys3)
-
-returns-4 : tie.Need-returns-4
-unfolding jumps
-returns-4 c = simp (ne-eqb _ _ (c .match .rest .1), ne-eqb _ _ (c .match .rest .0 .1), ne-eqb _ _ (c .match .rest .0 .0 .1))
+returns-2 c = by-flags _ _ _ (c .if1 .left)
 
 pub does-jump-spec : {M : Type 1} → statement M
-does-jump-spec = tie.close (tie.spec returns returns-2 returns-3 returns-4)
+does-jump-spec = tie.close (tie.spec returns returns-2)

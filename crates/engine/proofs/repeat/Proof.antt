@@ -1,35 +1,40 @@
--- `repeat`: what is left to do, with the cycles done, comes to what the whole run comes to.
+-- `repeat`: what is left to do, with the cycles done, comes to what the whole run comes to; the line stays one of the 64.
 use native.Mathlib.Omega.{arith}
 use mathlib.Core.Path.{_≡_, refl, _∙_}
 use borrow.Author.Needs.{needs}
 use mathlib.Core.List.{List}
 use native.Mathlib.Nat.{sub-zero}
-use Prim.Native.Nat.{ℕ, _≤_, _-_}
+use Prim.Native.Nat.{ℕ, _≤_, _<_, _-_}
 use lib.ListN.{length}
+use Rattle.datapath.specs.declared.Half.{Half}
+use Rattle.word.specs.declared.Line.{Line}
+use Rattle.engine.specs.Cycle.{State}
 use Rattle.engine.specs.Run.{cycles, plus, saying}
-use Rattle.engine.specs.Core.{joined}
-use Rattle.engine.proofs.Laws.{plus-none, goes-on, stops, ends}
-use Rattle.engine.specs.declared.Core.{Core}
+use Rattle.engine.specs.Standing.{standing}
+use Rattle.engine.proofs.Laws.{plus-none, goes-on, stops, ends, line-within}
 use Rattle.engine.proofs.repeat.Statement.{statement}
 use Rattle.engine.proofs.repeat.Tie as tie
 
-record Inv (store memory₀ input log₀ : List ℕ) (n : ℕ) (registers₀ : List ℕ) (core₀ : Core) (memory log registers : List ℕ) (core : Core) (done : ℕ) : Type 0 where
+record Inv (store memory₀ input log₀ : List ℕ) (n : ℕ) (start : State) (memory log registers : List ℕ) (line : Line) (half : Half) (place count done : ℕ) : Type 0 where
   within : done ≤ n
+  inside : line .0 < 64
   words : length memory ≡ length memory₀
   room : length log ≡ length log₀
-  same : cycles store input n (joined core₀ registers₀ memory₀ log₀) ≡ plus done (cycles store input (n - done) (joined core registers memory log))
+  same : cycles store input n start ≡ plus done (cycles store input (n - done) (standing line half place count registers memory log))
 
 abbrev Inv-loop : tie.InvT-loop
-Inv-loop store memory₀ input log₀ n registers₀ core₀ done₀ memory log registers core done = Inv store memory₀ input log₀ n registers₀ core₀ memory log registers core done
+Inv-loop store memory₀ input log₀ n registers₀ line₀ half₀ place₀ count₀ done₀ memory log registers line half place count done =
+    Inv store memory₀ input log₀ n (standing line₀ half₀ place₀ count₀ registers₀ memory₀ log₀) memory log registers line half place count done
 
 abbrev μ-loop : tie.MeasureT-loop
-μ-loop store memory₀ input log₀ n registers₀ core₀ done₀ memory log registers core done = n - done
+μ-loop store memory₀ input log₀ n registers₀ line₀ half₀ place₀ count₀ done₀ memory log registers line half place count done =
+    n - done
 
 loop-holds : tie.Need-loop-holds Inv-loop μ-loop
-loop-holds c = record { within = omega arith; words = refl; room = refl; same = rw (plus-none, sub-zero) }
+loop-holds c = record { within = omega arith; inside = c .before .before .before .before .before .before .pre .1; words = refl; room = refl; same = rw (plus-none, sub-zero) }
 
 step-requires : tie.Need-step-requires Inv-loop μ-loop
-step-requires c κs = search needs
+step-requires c κs = rw (c .before .before .before .before .before .before .before .before .before .before .before .pre .0) (c .before .before .before .before .loop .inv .inside)
 
 report-requires : tie.Need-report-requires Inv-loop μ-loop
 report-requires c κs = search needs
@@ -53,6 +58,7 @@ loop-less c = omega arith
 loop-again : tie.Need-loop-again Inv-loop μ-loop
 loop-again c = record {
   within = omega arith;
+  inside = line-within _ _ _ (c .before .before .before .before .before .before .before .before .before .before .before .loop .inv .inside) (c .before .before .before .before .before .before .step .ensures);
   words = c .before .before .before .before .before .before .step .kept .1 .0 ∙ c .before .before .before .before .before .before .before .before .before .before .before .loop .inv .words;
   room = c .before .before .before .before .before .before .step .kept .1 .1 .1 .0 ∙ c .before .before .before .before .before .before .before .before .before .before .before .loop .inv .room;
   same = c .before .before .before .before .before .before .before .before .before .before .before .loop .inv .same ∙ goes-on _ _ _ (c .before .before .before .before .before .before .before .before .before .before .loop-test .taken) (c .before .before .before .before .before .before .step .ensures) (c .if1 .left);

@@ -1,15 +1,17 @@
--- `run`: an answer 0 of the check lets the cycles run; any other is handed on with everything as found.
+-- `run`: an answer 0 of the check lets the cycles run, on a store and a line that are there; any other is handed on with everything as found.
 use denote.Enum.Declared.{tagOf}
 use mathlib.Core.Path.{_≡_, refl, sym, _∙_, ap}
 use mathlib.Core.List.{List, [], _∷_}
 use types.Run.{OneOf, miss}
-use Prim.Native.Nat.{ℕ}
+use Prim.Native.Nat.{ℕ, _<_}
+use lib.ListN.{length}
 use borrow.Author.Needs.{needs}
 use Rattle.engine.specs.declared.Answer.{Answer}
 use Rattle.engine.specs.Cycle.{State}
 use Rattle.engine.specs.declared.Answer.the-variants.{Done, Sizes, Places, Ranges, BadWord, LogFull}
 use Rattle.engine.proofs.Answer as AnswerT
-use Rattle.engine.specs.Run.{runs, begun, saying}
+use Rattle.engine.specs.Run.{Said, refusal, runs, begun, saying}
+use Rattle.engine.proofs.Laws.{runs-within}
 use Rattle.engine.proofs.run.Statement.{statement}
 use Rattle.engine.proofs.run.Tie as tie
 
@@ -23,6 +25,10 @@ refuses Ranges p store input n s = refl
 refuses (BadWord k) p store input n s = refl
 refuses LogFull p store input n s = refl
 
+lets-run : {a : Answer} (store input : List ℕ) (s : State) → saying a ≡ refusal store input s → a ≡ Done → (length store ≡ 64) × (s .line < 64)
+unfolding saying
+lets-run store input s e d = runs-within store input s (ap (λ (x : Said). x .number) (sym e ∙ ap saying d))
+
 check-requires : tie.Need-check-requires
 check-requires c κs = search needs
 
@@ -30,7 +36,7 @@ enum-told : tie.Need-enum-told
 enum-told c = search needs
 
 repeat-requires : tie.Need-repeat-requires
-repeat-requires c κs = search needs
+repeat-requires c κs = lets-run _ _ _ (c .before .before .before .before .check .ensures) (c .before .before .enum-told .given .1)
 
 same-length : tie.Need-same-length
 same-length c = search needs

@@ -14,8 +14,14 @@ use Rattle.engine.proofs.step.Tie as tie
 within : {m : Fields} (w : ℕ) → m ≡ fieldsOf w → Within m
 within w e = rw e (fields-within w)
 
-control-word-requires : tie.Need-control-word-requires
-control-word-requires c κs = search needs
+cast-k : tie.Need-cast-k
+cast-k c = search needs
+
+mul-fields-of : tie.Need-mul-fields-of
+mul-fields-of c = search needs
+
+shared-slice-read-fields-of : tie.Need-shared-slice-read-fields-of
+shared-slice-read-fields-of c = search needs
 
 fields-of-requires : tie.Need-fields-of-requires
 fields-of-requires c κs = search needs
@@ -61,10 +67,10 @@ rest-requires c κs = search needs
 
 returns : tie.Need-returns
 unfolding result
-returns c = rw (c .rest .ensures) (rests _ _ _ (record { fields = c .before .before .before .before .before .before .before .before .before .before .before .before .before .before .fields-of .ensures ∙ ap fieldsOf (c .before .before .before .before .before .before .before .before .before .before .before .before .before .before .before .control-word .ensures); computed = c .before .before .before .before .before .before .before .before .compute .ensures; kept = c .before .before .before .before .store-value .ensures; neither = c .before .if1 .taken; next = c .before .before .before .before .before .before .before .next-line .ensures }))
+returns c = rw (c .rest .ensures) (rests _ _ _ _ _ _ (record { fields = c .before .before .before .before .before .before .before .before .before .before .before .before .before .before .fields-of .ensures; computed = c .before .before .before .before .before .before .before .before .compute .ensures; kept = c .before .before .before .before .store-value .ensures; neither = c .before .if1 .taken; on = c .before .before .before .before .before .before .before .next-line .ensures }))
 
-element-copy-out-t21 : tie.Need-element-copy-out-t21
-element-copy-out-t21 c = search needs
+element-copy-out-t25 : tie.Need-element-copy-out-t25
+element-copy-out-t25 c = search needs
 
 element-copy-out-transfer : tie.Need-element-copy-out-transfer
 element-copy-out-transfer c = search needs
@@ -86,7 +92,7 @@ same-length-2 c = search needs
 
 returns-2 : tie.Need-returns-2
 unfolding result
-returns-2 c = refused (record { fields = c .before .before .before .before .before .before .before .before .before .before .before .before .before .before .before .before .before .before .before .before .before .before .before .before .before .fields-of .ensures ∙ ap fieldsOf (c .before .before .before .before .before .before .before .before .before .before .before .before .before .before .before .before .before .before .before .before .before .before .before .before .before .before .control-word .ensures); computed = c .before .before .before .before .before .before .before .before .before .before .before .before .before .before .before .before .before .before .before .compute .ensures; kept = c .before .before .before .before .before .before .before .before .before .before .before .before .before .before .before .store-value .ensures; moves = c .before .before .before .before .before .transfer .ensures }) (c .if2 .taken)
+returns-2 c = refused (record { fields = c .before .before .before .before .before .before .before .before .before .before .before .before .before .before .before .before .before .before .before .before .before .before .before .before .before .fields-of .ensures; computed = c .before .before .before .before .before .before .before .before .before .before .before .before .before .before .before .before .before .before .before .compute .ensures; kept = c .before .before .before .before .before .before .before .before .before .before .before .before .before .before .before .store-value .ensures; moves = c .before .before .before .before .before .transfer .ensures }) (c .if2 .taken)
 
 arrive-requires : tie.Need-arrive-requires
 arrive-requires c κs = search needs
@@ -99,13 +105,15 @@ same-length-4 c = search needs
 
 returns-3 : tie.Need-returns-3
 unfolding result
-returns-3 c = rw (c .arrive .ensures) (carried (record { fields = c .before .before .before .before .before .before .before .before .before .before .before .before .before .before .before .before .before .before .before .before .before .before .before .before .before .before .before .fields-of .ensures ∙ ap fieldsOf (c .before .before .before .before .before .before .before .before .before .before .before .before .before .before .before .before .before .before .before .before .before .before .before .before .before .before .before .before .control-word .ensures); computed = c .before .before .before .before .before .before .before .before .before .before .before .before .before .before .before .before .before .before .before .before .before .compute .ensures; kept = c .before .before .before .before .before .before .before .before .before .before .before .before .before .before .before .before .before .store-value .ensures; moves = c .before .before .before .before .before .before .before .transfer .ensures }) (c .before .before .if2 .left) (c .before .before .before .before .before .before .before .before .before .before .before .before .before .before .before .before .before .before .before .before .next-line .ensures))
+returns-3 c = rw (c .arrive .ensures) (carried (record { fields = c .before .before .before .before .before .before .before .before .before .before .before .before .before .before .before .before .before .before .before .before .before .before .before .before .before .before .before .fields-of .ensures; computed = c .before .before .before .before .before .before .before .before .before .before .before .before .before .before .before .before .before .before .before .before .before .compute .ensures; kept = c .before .before .before .before .before .before .before .before .before .before .before .before .before .before .before .before .before .store-value .ensures; moves = c .before .before .before .before .before .before .before .transfer .ensures }) (c .before .before .if2 .left) (c .before .before .before .before .before .before .before .before .before .before .before .before .before .before .before .before .before .before .before .before .next-line .ensures))
 
 pub step-spec : {M : Type 1} → statement M
 step-spec =
     tie.close
     (tie.spec
-    control-word-requires
+    cast-k
+    mul-fields-of
+    shared-slice-read-fields-of
     fields-of-requires
     cast-a
     cast-b
@@ -121,7 +129,7 @@ step-spec =
     store-value-requires
     rest-requires
     returns
-    element-copy-out-t21
+    element-copy-out-t25
     element-copy-out-transfer
     transfer-requires
     mul-registers
