@@ -1,6 +1,7 @@
 //! Every truncation and every single-byte change of the text and image vectors, the library held against the model.
 
 use facetgrove_model::{assemble, assemble_line, lines, Functions, Model, MEMORY_WORDS, STORE_WORDS};
+use std::cmp::Reverse;
 use std::sync::atomic::{AtomicUsize, Ordering};
 use std::time::Instant;
 
@@ -13,7 +14,7 @@ const SHORT_TEXT: usize = 4096;
 fn short_texts() {
     let texts = texts_with(|length| length <= SHORT_TEXT);
     assert_eq!(texts.len(), 260);
-    over_all("short texts", &texts, |text| truncated_texts(text) + changed_texts(text));
+    over_all("short texts", texts, |text| truncated_texts(text) + changed_texts(text));
 }
 
 /// Apart from the short ones, so that they can be left out: the two of 8,192 bytes take over a third of the time.
@@ -21,7 +22,7 @@ fn short_texts() {
 fn long_texts() {
     let texts = texts_with(|length| length > SHORT_TEXT);
     assert_eq!(texts.len(), 9);
-    over_all("long texts", &texts, |text| truncated_texts(text) + changed_texts(text));
+    over_all("long texts", texts, |text| truncated_texts(text) + changed_texts(text));
 }
 
 fn texts_with(length: impl Fn(usize) -> bool) -> Vec<Vec<u8>> {
@@ -34,7 +35,7 @@ fn texts_with(length: impl Fn(usize) -> bool) -> Vec<Vec<u8>> {
 fn images() {
     let images = first_fields(include_str!("vectors/images.txt"));
     assert_eq!(images.len(), 250);
-    over_all("images", &images, |image| truncated_images(image) + changed_images(image));
+    over_all("images", images, |image| truncated_images(image) + changed_images(image));
 }
 
 /// The bytes that are the first value of each line.
@@ -47,9 +48,11 @@ fn from_hex(digits: &str) -> Vec<u8> {
     pairs.map(|pair| u8::from_str_radix(pair, 16).expect("hexadecimal digits")).collect()
 }
 
-/// Does the work for each of the originals, on all cores, and prints how many cases there were.
-fn over_all(name: &str, originals: &[Vec<u8>], work: impl Fn(&[u8]) -> u64 + Sync) {
+/// Does the work for each of the originals, on all cores, and prints how many cases there were. The longest come first,
+/// so that no core is left alone with one at the end.
+fn over_all(name: &str, mut originals: Vec<Vec<u8>>, work: impl Fn(&[u8]) -> u64 + Sync) {
     let start = Instant::now();
+    originals.sort_by_key(|original| Reverse(original.len()));
     let next = AtomicUsize::new(0);
     let take_in_turn = || {
         let mut cases = 0;
