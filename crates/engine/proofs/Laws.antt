@@ -13,7 +13,7 @@ use borrow.Author.Tests.{eqb-true, ltb-false}
 use Rattle.datapath.specs.declared.Moved.{Moved}
 use Rattle.datapath.specs.declared.Half.{Half}
 use Rattle.datapath.specs.declared.Half.the-variants.{Nothing}
-use Rattle.datapath.specs.Result.{keeps, negative, isZero, jumps}
+use Rattle.datapath.specs.Result.{keeps}
 use Rattle.datapath.specs.Transfer.{Found, Transfer, moved, waits, transferred, leftIn}
 use Rattle.datapath.proofs.Laws.{transfer-refused, rdm-stays}
 use Rattle.bus.specs.Ports.{Left}
@@ -102,20 +102,17 @@ settled-within s c h g = by (c .full) refl
     by true e = h
     by false e = g
 
-next-within : (m : Fields) (value line : ℕ) → m .end < 64 → nextLine m value line < 64
-unfolding nextLine target
-next-within m value line h = by (jumps (m .sq) (negative value) (isZero value))
-  where
-    by : (jump : Bool) → cond jump (m .end) (sum 6 line 1) < 64
-    by true = h
-    by false = kept-below 6 (line + 1)
+target-within : (m : Fields) (jump : Bool) (line : ℕ) → m .end < 64 → target m jump line < 64
+unfolding target
+target-within m true line h = h
+target-within m false line h = kept-below 6 (line + 1)
 
 pub line-within : (store input : List ℕ) (s : State) {a : Cycled} → s .line < 64 → cycle store input s ≡ a → a .next .line < 64
-unfolding cycle driven
+unfolding cycle driven nextLine
 line-within store input s h e =
     let m : Fields = fieldsOf (controlWord store (s .line)) in
     subst (λ (c : Cycled). c .next .line < 64) e
-    (settled-within s (driven m input s) h (next-within m (result m (s .registers)) (s .line) (fields-within (controlWord store (s .line)) .end)))
+    (settled-within s (driven m input s) h (target-within m _ (s .line) (fields-within (controlWord store (s .line)) .end)))
 
 -- A run that is not refused has a store of 64 words and starts at one of its lines.
 pub runs-within : (store input : List ℕ) (s : State) → refusal store input s .number ≡ 0 → (length store ≡ 64) × (s .line < 64)
