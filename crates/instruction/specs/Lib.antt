@@ -1,3 +1,4 @@
 pub mod Instruction
 pub mod Handed
+pub mod Effects
 pub mod Writes

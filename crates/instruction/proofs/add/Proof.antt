@@ -15,7 +15,7 @@ set-requires c κs = search needs
 
 returns : tie.Need-returns
 unfolding gains sets
-returns c = simp (c .before .before .before .before .word-at .ensures, c .before .add .ensures, c .set .ensures)
+returns c = let given = c .before .before .before .before .before .before .args in rw (c .before .add .ensures, c .before .before .word-at .ensures) at (c .set .ensures (given .memory .now) (given .log .now))
 
 pub add-spec : {M : Type 1} → statement M
 add-spec = tie.close (tie.spec word-at-requires add-requires set-requires returns)

@@ -12,7 +12,7 @@ set-requires c κs = search needs
 
 returns : tie.Need-returns
 unfolding gains sets
-returns c = simp (c .before .before .before .word-at .ensures, c .set .ensures)
+returns c = let given = c .before .before .before .before .before .args in rw (c .before .word-at .ensures) at (c .set .ensures (given .memory .now) (given .log .now))
 
 pub load-spec : {M : Type 1} → statement M
 load-spec = tie.close (tie.spec word-at-requires set-requires returns)

@@ -15,7 +15,7 @@ set-requires c κs = search needs
 
 returns : tie.Need-returns
 unfolding gains sets
-returns c = simp (c .before .before .before .before .word-at .ensures, c .before .subtract .ensures, c .set .ensures)
+returns c = let given = c .before .before .before .before .before .before .args in rw (c .before .subtract .ensures, c .before .before .word-at .ensures) at (c .set .ensures (given .memory .now) (given .log .now))
 
 pub subtract-spec : {M : Type 1} → statement M
 subtract-spec = tie.close (tie.spec word-at-requires subtract-requires set-requires returns)
