@@ -8,8 +8,10 @@ use lib.Dec.{ltb, eqb}
 use Rattle.datapath.specs.declared.Half.{Half}
 use Rattle.datapath.specs.declared.Half.the-variants.{Nothing, Read, Write}
 use Rattle.engine.specs.Cycle.{State, cycle}
-use Rattle.engine.specs.Run.{Said, Ended, onwards, plus, cycles, refusal, begun, runs, Press, press}
+use Rattle.engine.specs.Run.{Said, Ended, saying, onwards, plus, cycles, refusal, begun, runs, endedBy, Press, press, pressedBy}
 use Rattle.engine.specs.declared.Machine.{Machine}
+use Rattle.engine.specs.declared.Pressed.{Pressed}
+use Rattle.engine.specs.declared.Ran.{Ran}
 use Rattle.assembler.specs.Assembled.{Outcome}
 use Rattle.image.specs.Image.{Reading}
 use Rattle.facetgrove.specs.Called.{Called}
@@ -32,13 +34,15 @@ once store input s = by (refusal store input s) (eqb (refusal store input s .num
     by refused true e false = refl
     by refused false e full = rw e
 
--- What a press comes to, with the count that the run of 1 has.
-pub pressed : (store input : List ℕ) (s : State) {p : Press} → press store input s ≡ p
-    → runs store input 1 s ≡ record { state = p .state; done = cond (eqb (p .said .number) 0) 1 0; said = p .said }
+-- A press, with the count that the run of 1 has, is what that run hands back.
+pub pressed : (store input memory log : List ℕ) (s : State) (p : Pressed) {ran : Ran} → press store input s ≡ pressedBy (p .answer) (p .machine) memory log
+    → ran ≡ record { machine = p .machine; done = cond (eqb (saying (p .answer) .number) 0) 1 0; answer = p .answer }
+    → runs store input 1 s ≡ endedBy ran memory log
 unfolding press
-pressed store input s e =
+pressed store input memory log s p e same =
     ap (λ (done : ℕ). record { state = runs store input 1 s .state; done = done; said = runs store input 1 s .said }) (once store input s)
-    ∙ ap (λ (p : Press). record { state = p .state; done = cond (eqb (p .said .number) 0) 1 0; said = p .said }) e
+    ∙ ap (λ (q : Press). record { state = q .state; done = cond (eqb (q .said .number) 0) 1 0; said = q .said }) e
+    ∙ ap (λ (r : Ran). endedBy r memory log) (sym same)
 
 -- Half done comes back from its number, which is at most 2.
 half-back : (half : Half) → halfOf (halfNumber half) ≡ half

@@ -1,22 +1,22 @@
 // The library for C and Rust: each function of the plant's software over numbers and slices.
 ghost use mathlib.Core.Path.{_≡_};
 ghost use mathlib.Core.Bool.{cond};
+ghost use mathlib.Core.List.{List};
+ghost use Prim.Native.Nat.{ℕ};
 ghost use lib.Dec.{eqb};
-ghost use Rattle.engine.specs.Run.{saying};
-ghost use Rattle.interpreter.specs.Run.{number as Interpreter·number};
-ghost use Rattle.microtext.specs.Line.{faultNumber};
-ghost use Rattle.assembler.specs.Assembled.{answerNumber, assembled};
-ghost use Rattle.lister.specs.Answers.{number as Lister·number, named};
-ghost use Rattle.image.specs.Answers.{number as Image·number};
+ghost use Rattle.engine.specs.Run.{saying, endedBy};
+ghost use Rattle.interpreter.specs.Run.{endedBy as Interpreter·endedBy};
+ghost use Rattle.assembler.specs.Assembled.{assembled};
 ghost use Rattle.image.specs.Image.{reading};
 ghost use Rattle.printed.specs.Printed.{printed};
-ghost use Rattle.facetgrove.specs.Engine.{halfOf, halfNumber, lineOf, stateList, machineOf, ranBy, engineCalled};
-ghost use Rattle.facetgrove.specs.Interpreter.{interpreterCalled};
+ghost use Rattle.facetgrove.specs.Engine.{halfOf, halfNumber, lineOf, stateList, machineOf, ranBy, leaves, engineCalled};
+ghost use Rattle.facetgrove.specs.Interpreter.{cpuOf, leaves as Interpreter·leaves, interpreterCalled};
 ghost use Rattle.facetgrove.specs.Rooms.{listCalled, writeCalled};
 use datapath::Half;
 use engine::Machine;
+use engine::Pressed;
+use engine::Ran;
 use instruction::Cpu;
-use microtext::Fault;
 use word::Address;
 use word::Line;
 
@@ -56,30 +56,6 @@ fn line_of(line: usize, half: usize) -> Line
     }
 }
 
-// The number of the engine's answer.
-fn engine_number(answer: engine::Answer) -> u32
-    ensures { λ r. ⌜ r ≡ saying answer .number ⌝ }
-{
-    match answer {
-        engine::Answer::Done => 0,
-        engine::Answer::Sizes => 1,
-        engine::Answer::Places => 2,
-        engine::Answer::Ranges => 3,
-        engine::Answer::BadWord(_) => 4,
-        engine::Answer::LogFull => 5,
-    }
-}
-
-// The line that the engine's answer names, else 0.
-fn engine_line(answer: engine::Answer) -> usize
-    ensures { λ r. ⌜ r ≡ saying answer .line ⌝ }
-{
-    match answer {
-        engine::Answer::BadWord(line) => line.0 as usize,
-        _ => 0,
-    }
-}
-
 // The machine that a caller's registers and state stand for.
 fn machine_of(registers: [u16; 8], state: [usize; 4]) -> Machine
     ensures { λ r. ⌜ r ≡ machineOf registers state ⌝ }
@@ -114,6 +90,23 @@ fn put_machine(number: u32, machine: Machine, registers: &mut [u16; 8], state: &
     }
 }
 
+// What the engine's run left goes back to the caller's lists.
+fn hand_back_engine(
+    ran: Ran,
+    registers: &mut [u16; 8],
+    state: &mut [usize; 4],
+    told: &mut [usize; 2],
+) -> u32
+    ensures { λ r. ⌜ ((memory log : List ℕ) → leaves (endedBy ran memory log) (now (registers .entry)) (now (state .entry)) ≡ record { answer = r; registers = now (registers .exit); state = now (state .exit); memory = memory; log = log; told = now (told .exit) }) ⌝ }
+{
+    let answer = ran.answer;
+    let machine = ran.machine;
+    *told = [ran.done as usize, answers::line_of_engine(answer)];
+    let number = answers::of_engine(answer);
+    put_machine(number, machine, registers, state);
+    number
+}
+
 // A run of the engine.
 #[no_mangle]
 pub extern "C" fn facetgrove_engine_run(
@@ -130,19 +123,21 @@ pub extern "C" fn facetgrove_engine_run(
 {
     let machine = machine_of(*registers, *state);
     let ran = engine::run(store, memory, input, log, machine, cycles);
-    let answer = ran.answer;
-    let machine = ran.machine;
-    *told = [ran.done as usize, engine_line(answer)];
-    let number = engine_number(answer);
-    put_machine(number, machine, registers, state);
-    number
+    hand_back_engine(ran, registers, state, told)
 }
 
-// The cycles that a press carried out, by its answer's number.
-fn carried_out(number: u32) -> usize
-    ensures { λ r. ⌜ r ≡ cond (eqb number 0) 1 0 ⌝ }
+// A press as the run of 1 that it is.
+fn counted(pressed: Pressed) -> Ran
+    ensures { λ r. ⌜ r ≡ record { machine = pressed .machine; done = cond (eqb (saying (pressed .answer) .number) 0) 1 0; answer = pressed .answer } ⌝ }
 {
-    if number == 0 { 1 } else { 0 }
+    let answer = pressed.answer;
+    let machine = pressed.machine;
+    let number = answers::of_engine(answer);
+    Ran {
+        machine,
+        done: (number == 0) as u32,
+        answer,
+    }
 }
 
 // A press on the operator's panel: the engine's run of 1.
@@ -160,25 +155,40 @@ pub extern "C" fn facetgrove_press(
 {
     let machine = machine_of(*registers, *state);
     let pressed = panel::pressed_through(machine, memory, input, log, store);
-    let answer = pressed.answer;
-    let left = pressed.machine;
-    let number = engine_number(answer);
-    *told = [carried_out(number), engine_line(answer)];
-    put_machine(number, left, registers, state);
-    number
+    let ran = counted(pressed);
+    hand_back_engine(ran, registers, state, told)
 }
 
-// The number of the interpreter's answer.
-fn interpreter_number(answer: interpreter::Answer) -> u32
-    ensures { λ r. ⌜ r ≡ Interpreter·number answer ⌝ }
+// The registers that a caller's lists stand for.
+fn cpu_of(registers: [u16; 3], state: [usize; 2]) -> Cpu
+    ensures { λ r. ⌜ r ≡ cpuOf registers state ⌝ }
 {
-    match answer {
-        interpreter::Answer::Done => 0,
-        interpreter::Answer::Sizes => 1,
-        interpreter::Answer::Places => 2,
-        interpreter::Answer::Ranges => 3,
-        interpreter::Answer::LogFull => 5,
+    Cpu {
+        cp: Address(registers[0]),
+        ac: registers[1],
+        pp: Address(registers[2]),
+        place: state[0],
+        count: state[1],
     }
+}
+
+// What the interpreter's run left goes back to the caller's lists.
+fn hand_back_interpreter(
+    ran: interpreter::Ran,
+    registers: &mut [u16; 3],
+    state: &mut [usize; 2],
+    told: &mut [u64; 2],
+) -> u32
+    ensures { λ r. ⌜ ((memory log : List ℕ) → Interpreter·leaves (Interpreter·endedBy ran memory log) ≡ record { answer = r; registers = now (registers .exit); state = now (state .exit); memory = memory; log = log; told = now (told .exit) }) ⌝ }
+{
+    let cpu = ran.cpu;
+    let cp = cpu.cp;
+    let pp = cpu.pp;
+    *registers = [cp.0, cpu.ac, pp.0];
+    *state = [cpu.place, cpu.count];
+    *told = [ran.done as u64, ran.cycles];
+    let answer = ran.answer;
+    answers::of_interpreter(answer)
 }
 
 // A run of the interpreter.
@@ -194,47 +204,9 @@ pub extern "C" fn facetgrove_interpreter_run(
 ) -> u32
     ensures { λ r. ⌜ interpreterCalled (now (input .entry)) instructions (now (registers .entry)) (now (state .entry)) (now (memory .entry)) (now (log .entry)) ≡ record { answer = r; registers = now (registers .exit); state = now (state .exit); memory = now (memory .exit); log = now (log .exit); told = now (told .exit) } ⌝ }
 {
-    let cpu = Cpu {
-        cp: Address(registers[0]),
-        ac: registers[1],
-        pp: Address(registers[2]),
-        place: state[0],
-        count: state[1],
-    };
+    let cpu = cpu_of(*registers, *state);
     let ran = interpreter::run(memory, input, log, cpu, instructions);
-    let cpu = ran.cpu;
-    let cp = cpu.cp;
-    let pp = cpu.pp;
-    *registers = [cp.0, cpu.ac, pp.0];
-    *state = [cpu.place, cpu.count];
-    *told = [ran.done as u64, ran.cycles];
-    let answer = ran.answer;
-    interpreter_number(answer)
-}
-
-// The number of a faulty line of micro text.
-fn fault_number(fault: Fault) -> u32
-    ensures { λ r. ⌜ r ≡ faultNumber fault ⌝ }
-{
-    match fault {
-        Fault::ExtraLine => 11,
-        Fault::WrongNumber => 12,
-        Fault::Ungrammatical => 13,
-        Fault::FarTarget => 14,
-        Fault::WrongParts => 15,
-    }
-}
-
-// The number of the assembler's answer.
-fn assembler_number(answer: assembler::Answer) -> u32
-    ensures { λ r. ⌜ r ≡ answerNumber answer ⌝ }
-{
-    match answer {
-        assembler::Answer::Done => 0,
-        assembler::Answer::WrongStore => 1,
-        assembler::Answer::LongText => 10,
-        assembler::Answer::Refused(fault) => fault_number(fault),
-    }
+    hand_back_interpreter(ran, registers, state, told)
 }
 
 // Micro text to a control store.
@@ -243,30 +215,7 @@ pub extern "C" fn facetgrove_assemble(text: &[u8], store: &mut [u32]) -> u32
     ensures { λ r. ⌜ assembled (now (text .entry)) (now (store .entry)) ≡ record { answer = r; store = now (store .exit) } ⌝ }
 {
     let answer = assembler::assemble(text, store);
-    assembler_number(answer)
-}
-
-// The number of the lister's answer.
-fn lister_number(answer: lister::Answer) -> u32
-    ensures { λ r. ⌜ r ≡ Lister·number answer ⌝ }
-{
-    match answer {
-        lister::Answer::Done => 0,
-        lister::Answer::WrongStore => 1,
-        lister::Answer::BadWord(_) => 4,
-        lister::Answer::SmallRoom => 16,
-        lister::Answer::PastRoom => 17,
-    }
-}
-
-// The line that the lister's answer names, else 0.
-fn lister_line(answer: lister::Answer) -> usize
-    ensures { λ r. ⌜ r ≡ named answer ⌝ }
-{
-    match answer {
-        lister::Answer::BadWord(line) => line.0 as usize,
-        _ => 0,
-    }
+    answers::of_assembler(answer)
 }
 
 // A control store's listing, at the start of the room.
@@ -276,23 +225,8 @@ pub extern "C" fn facetgrove_list(store: &[u32], room: &mut [u8], told: &mut [us
 {
     let listed = lister::list(store, room);
     let answer = listed.answer;
-    *told = [listed.length, lister_line(answer)];
-    lister_number(answer)
-}
-
-// The number of the image reader's or writer's answer.
-fn image_number(answer: image::Answer) -> u32
-    ensures { λ r. ⌜ r ≡ Image·number answer ⌝ }
-{
-    match answer {
-        image::Answer::Done => 0,
-        image::Answer::MemorySize => 1,
-        image::Answer::ImageLength => 20,
-        image::Answer::AddressTooHigh => 21,
-        image::Answer::AddressNotAbove => 22,
-        image::Answer::ValueZero => 23,
-        image::Answer::RoomTooSmall => 24,
-    }
+    *told = [listed.length, answers::line_of_lister(answer)];
+    answers::of_lister(answer)
 }
 
 // An image to a memory.
@@ -301,7 +235,7 @@ pub extern "C" fn facetgrove_image_read(image: &[u8], memory: &mut [u16]) -> u32
     ensures { λ r. ⌜ reading (now (image .entry)) (now (memory .entry)) ≡ record { answer = r; memory = now (memory .exit) } ⌝ }
 {
     let answer = image::read(image, memory);
-    image_number(answer)
+    answers::of_image(answer)
 }
 
 // A memory's image, at the start of the room.
@@ -316,7 +250,7 @@ pub extern "C" fn facetgrove_image_write(
     let written = image::write(memory, room);
     let answer = written.answer;
     *length = [written.length];
-    image_number(answer)
+    answers::of_image(answer)
 }
 
 // The printed microprogram.

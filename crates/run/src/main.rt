@@ -3,8 +3,6 @@ ghost use mathlib.Core.Path.{_≡_};
 ghost use Prim.Native.Nat.{_≤_};
 ghost use lib.ListN.{length as Lib·length, take};
 ghost use Rattle.io.specs.Counts.{Counts};
-ghost use Rattle.image.specs.Answers.{number as Image·number};
-ghost use Rattle.interpreter.specs.Run.{number as Run·number};
 ghost use Rattle.run.specs.Report.{ran, printed};
 use console::Input;
 use console::Run;
@@ -13,34 +11,6 @@ use word::Address;
 
 // The bytes of the longest image.
 const LONGEST: usize = 16368;
-
-// The number of the image reader's answer.
-fn number_of_reading(answer: image::Answer) -> u32
-    ensures { λ r. ⌜ r ≡ Image·number answer ⌝ }
-{
-    match answer {
-        image::Answer::Done => 0,
-        image::Answer::MemorySize => 1,
-        image::Answer::ImageLength => 20,
-        image::Answer::AddressTooHigh => 21,
-        image::Answer::AddressNotAbove => 22,
-        image::Answer::ValueZero => 23,
-        image::Answer::RoomTooSmall => 24,
-    }
-}
-
-// The number of the interpreter's answer.
-fn number_of_run(answer: interpreter::Answer) -> u32
-    ensures { λ r. ⌜ r ≡ Run·number answer ⌝ }
-{
-    match answer {
-        interpreter::Answer::Done => 0,
-        interpreter::Answer::Sizes => 1,
-        interpreter::Answer::Places => 2,
-        interpreter::Answer::Ranges => 3,
-        interpreter::Answer::LogFull => 5,
-    }
-}
 
 // The report of a memory's run, at the front of the room.
 fn run_memory(memory: &mut [u16], room: &mut [u8]) -> usize
@@ -63,7 +33,7 @@ fn run_memory(memory: &mut [u16], room: &mut [u8]) -> usize
     let cp = cpu.cp;
     let pp = cpu.pp;
     let run = Run {
-        answer: number_of_run(answer),
+        answer: answers::of_interpreter(answer),
         done: end.done,
         cycles: end.cycles,
         cp,
@@ -85,7 +55,7 @@ fn text(input: &[u8], room: &mut [u8]) -> usize
     }
     let mut memory = [0u16; 4096];
     let read = image::read(input, &mut memory);
-    let answer = number_of_reading(read);
+    let answer = answers::of_image(read);
     if answer != 0 {
         return console::refusal(answer, room);
     }

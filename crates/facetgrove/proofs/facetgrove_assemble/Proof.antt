@@ -6,15 +6,15 @@ use Rattle.facetgrove.proofs.facetgrove_assemble.Tie as tie
 assemble-requires : tie.Need-assemble-requires
 assemble-requires c κs = search needs
 
-assembler-number-requires : tie.Need-assembler-number-requires
-assembler-number-requires c κs = search needs
+of-assembler-requires : tie.Need-of-assembler-requires
+of-assembler-requires c κs = search needs
 
 same-length : tie.Need-same-length
 same-length c = search needs
 
 returns : tie.Need-returns
-returns c = rw (c .assembler-number .ensures) (c .before .before .before .assemble .ensures)
+returns c = rw (c .of-assembler .ensures) (c .before .before .before .assemble .ensures)
 
 pub facetgrove-assemble-spec : {M : Type 1} → statement M
 facetgrove-assemble-spec =
-    tie.close (tie.spec assemble-requires assembler-number-requires same-length returns)
+    tie.close (tie.spec assemble-requires of-assembler-requires same-length returns)

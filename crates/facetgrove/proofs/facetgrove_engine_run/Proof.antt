@@ -1,6 +1,6 @@
 -- `facetgrove_engine_run`: the engine's promise for the machine that the lists stand for, spread over the lists again.
 use borrow.Author.Needs.{needs}
-use Rattle.facetgrove.specs.Engine.{leaves, engineCalled}
+use Rattle.facetgrove.specs.Engine.{engineCalled}
 use Rattle.facetgrove.proofs.facetgrove_engine_run.Statement.{statement}
 use Rattle.facetgrove.proofs.facetgrove_engine_run.Tie as tie
 
@@ -10,17 +10,8 @@ machine-of-requires c κs = search needs
 run-requires : tie.Need-run-requires
 run-requires c κs = search needs
 
-cast-t20 : tie.Need-cast-t20
-cast-t20 c = search needs
-
-engine-line-requires : tie.Need-engine-line-requires
-engine-line-requires c κs = search needs
-
-engine-number-requires : tie.Need-engine-number-requires
-engine-number-requires c κs = search needs
-
-put-machine-requires : tie.Need-put-machine-requires
-put-machine-requires c κs = search needs
+hand-back-engine-requires : tie.Need-hand-back-engine-requires
+hand-back-engine-requires c κs = search needs
 
 same-length : tie.Need-same-length
 same-length c = search needs
@@ -29,13 +20,10 @@ same-length-2 : tie.Need-same-length-2
 same-length-2 c = search needs
 
 returns : tie.Need-returns
-unfolding engineCalled leaves
+unfolding engineCalled
 returns c =
-    let begins = c .before .before .before .before .before .before .before .before .before .before .before .before .before .before .before .machine-of .ensures in
-    let ends = c .before .before .before .before .before .before .before .before .before .before .before .before .run .ensures in
-    let line = c .before .before .before .before .before .engine-line .ensures in
-    let number = c .before .before .before .engine-number .ensures in
-    rw (← begins, ends, c .put-machine .ensures .0, c .put-machine .ensures .1, number, line)
+    let begins = c .before .before .before .before .before .before .before .before .before .before .before .machine-of .ensures in
+    rw (← begins, c .before .before .before .before .before .before .before .before .run .ensures) (c .hand-back-engine .ensures _ _)
 
 pub facetgrove-engine-run-spec : {M : Type 1} → statement M
 facetgrove-engine-run-spec =
@@ -43,10 +31,7 @@ facetgrove-engine-run-spec =
     (tie.spec
     machine-of-requires
     run-requires
-    cast-t20
-    engine-line-requires
-    engine-number-requires
-    put-machine-requires
+    hand-back-engine-requires
     same-length
     same-length-2
     returns)

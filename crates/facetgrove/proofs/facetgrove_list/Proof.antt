@@ -8,20 +8,20 @@ use Rattle.facetgrove.proofs.facetgrove_list.Tie as tie
 list-requires : tie.Need-list-requires
 list-requires c κs = search needs
 
-lister-line-requires : tie.Need-lister-line-requires
-lister-line-requires c κs = search needs
+line-of-lister-requires : tie.Need-line-of-lister-requires
+line-of-lister-requires c κs = search needs
 
-lister-number-requires : tie.Need-lister-number-requires
-lister-number-requires c κs = search needs
+of-lister-requires : tie.Need-of-lister-requires
+of-lister-requires c κs = search needs
 
 same-length : tie.Need-same-length
 same-length c = search needs
 
 returns : tie.Need-returns
 unfolding listCalled
-returns c = rw (c .lister-number .ensures, c .before .before .lister-line .ensures) (ap ofListing (c .before .before .before .before .before .list .ensures))
+returns c = rw (c .of-lister .ensures, c .before .before .line-of-lister .ensures) (ap ofListing (c .before .before .before .before .before .list .ensures))
 
 pub facetgrove-list-spec : {M : Type 1} → statement M
 facetgrove-list-spec =
     tie.close
-    (tie.spec list-requires lister-line-requires lister-number-requires same-length returns)
+    (tie.spec list-requires line-of-lister-requires of-lister-requires same-length returns)

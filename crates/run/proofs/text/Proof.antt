@@ -26,8 +26,8 @@ slice-aggregate-read c = search needs
 read-requires : tie.Need-read-requires
 read-requires c κs = search needs
 
-number-of-reading-requires : tie.Need-number-of-reading-requires
-number-of-reading-requires c κs = search needs
+of-image-requires : tie.Need-of-image-requires
+of-image-requires c κs = search needs
 
 refusal-requires-2 : tie.Need-refusal-requires-2
 refusal-requires-2 c κs = search needs
@@ -37,7 +37,7 @@ same-length-2 c = search needs
 
 returns-2 : tie.Need-returns-2
 returns-2 c = let shown = front _ _ _ _ (c .before .before .before .before .before .before .before .before .before .before .before .before .pre) (c .before .before .refusal2 .ensures) in
-    let n = c .before .before .before .before .before .number-of-reading .ensures in (
+    let n = c .before .before .before .before .before .of-image .ensures in (
       shown .stands ∙ ap refusal n ∙ sym (refused-text _ _ _ (c .before .before .before .before .before .before .before .before .before .if1 .left) (c .before .before .before .before .before .before .before .read .ensures) (λ zero. c .before .before .before .before .if2 .taken (n ∙ zero))),
       shown .counted,
     )
@@ -53,7 +53,7 @@ same-length-3 c = search needs
 
 returns-3 : tie.Need-returns-3
 returns-3 c = let r = c .before .before .before .run-memory .ensures in (
-  r .0 ∙ sym (ran-text _ _ _ (c .before .before .before .before .before .before .before .before .before .before .before .if1 .left) (c .before .before .before .before .before .before .before .before .before .read .ensures) (sym (c .before .before .before .before .before .before .before .number-of-reading .ensures) ∙ c .before .before .before .before .before .before .if2 .left)),
+  r .0 ∙ sym (ran-text _ _ _ (c .before .before .before .before .before .before .before .before .before .before .before .if1 .left) (c .before .before .before .before .before .before .before .before .before .read .ensures) (sym (c .before .before .before .before .before .before .before .of-image .ensures) ∙ c .before .before .before .before .before .before .if2 .left)),
   r .1,
 )
 
@@ -66,7 +66,7 @@ text-spec =
     returns
     slice-aggregate-read
     read-requires
-    number-of-reading-requires
+    of-image-requires
     refusal-requires-2
     same-length-2
     returns-2

@@ -1,4 +1,4 @@
--- `lister_line`: only answer 4, the enum's case 3, names a line.
+-- `line_of_lister`: only answer 4, the enum's case 3, names a line.
 use borrow.Author.Needs.{needs}
 use denote.Enum.Declared.{tagOf}
 use mathlib.Core.Path.{_≡_, refl}
@@ -8,8 +8,8 @@ use Rattle.lister.specs.Answers.{named}
 use Rattle.lister.specs.declared.Answer.{Answer}
 use Rattle.lister.specs.declared.Answer.the-variants.{Done, WrongStore, SmallRoom, BadWord, PastRoom}
 use Rattle.lister.proofs.Answer as Cases
-use Rattle.facetgrove.proofs.lister_line.Statement.{statement}
-use Rattle.facetgrove.proofs.lister_line.Tie as tie
+use Rattle.answers.proofs.line_of_lister.Statement.{statement}
+use Rattle.answers.proofs.line_of_lister.Tie as tie
 
 unnamed : (a : Answer) → OneOf (0 ∷ 1 ∷ 2 ∷ 4 ∷ []) (tagOf Cases.the-type a) → 0 ≡ named a
 unnamed Done other = refl
@@ -30,5 +30,5 @@ returns c = search needs
 returns-2 : tie.Need-returns-2
 returns-2 c = unnamed (c .before .args .answer) (c .match .keys2)
 
-pub lister-line-spec : {M : Type 1} → statement M
-lister-line-spec = tie.close (tie.spec enum-known-answer cast-result returns returns-2)
+pub line-of-lister-spec : {M : Type 1} → statement M
+line-of-lister-spec = tie.close (tie.spec enum-known-answer cast-result returns returns-2)

@@ -1,4 +1,4 @@
--- `engine_line`: only answer 4, the enum's case 4, names a line.
+-- `line_of_engine`: only answer 4, the enum's case 4, names a line.
 use borrow.Author.Needs.{needs}
 use denote.Enum.Declared.{tagOf}
 use mathlib.Core.Path.{_≡_, refl}
@@ -8,8 +8,8 @@ use Rattle.engine.specs.Run.{saying}
 use Rattle.engine.specs.declared.Answer.{Answer}
 use Rattle.engine.specs.declared.Answer.the-variants.{Done, Sizes, Places, Ranges, BadWord, LogFull}
 use Rattle.engine.proofs.Answer as Cases
-use Rattle.facetgrove.proofs.engine_line.Statement.{statement}
-use Rattle.facetgrove.proofs.engine_line.Tie as tie
+use Rattle.answers.proofs.line_of_engine.Statement.{statement}
+use Rattle.answers.proofs.line_of_engine.Tie as tie
 
 unnamed : (a : Answer) → OneOf (0 ∷ 1 ∷ 2 ∷ 3 ∷ 5 ∷ []) (tagOf Cases.the-type a) → 0 ≡ saying a .line
 unfolding saying
@@ -28,11 +28,11 @@ cast-result c = search needs
 
 returns : tie.Need-returns
 unfolding saying
-returns c = rw (c .before .before .answer .given .1)
+returns c = search needs
 
 returns-2 : tie.Need-returns-2
 unfolding saying
 returns-2 c = unnamed (c .before .args .answer) (c .match .keys2)
 
-pub engine-line-spec : {M : Type 1} → statement M
-engine-line-spec = tie.close (tie.spec enum-known-answer cast-result returns returns-2)
+pub line-of-engine-spec : {M : Type 1} → statement M
+line-of-engine-spec = tie.close (tie.spec enum-known-answer cast-result returns returns-2)
