@@ -12,10 +12,10 @@ use lib.ListN.{length, getD, drop-of-length-le}
 use lib.Seq.{drop-cons}
 use Rattle.microtext.specs.Text.{same, before}
 use Rattle.microtext.specs.Tokens.{letter, digit, every, oneToken, begun, under, ended, going, tokensAfter, tokens}
-use Rattle.microtext.specs.Progress.{grown, packed, Spaces, BeginsSign, NextToken}
+use Rattle.microtext.specs.Progress.{numeral, spelt, grown, packed, Spaces, BeginsSign, NextToken}
 use Rattle.microtext.specs.Reading.{lineAt, endAt}
 use Rattle.microtext.specs.declared.Scanned.{Scanned}
-use Rattle.microtext.proofs.Packed.{Bytes, bytes-append, packed-more, known}
+use Rattle.microtext.proofs.Packed.{Bytes, bytes-append, packed-more, short, known}
 use Rattle.microtext.proofs.Tests.{both}
 
 pub every-more : (p : ℕ → Bool) (t : List ℕ) (c : ℕ) → every p (t ++ c ∷ []) ≡ (every p t && p c)
@@ -247,42 +247,42 @@ module _ (p : ℕ → Bool) (of-class : Class p) (text : List ℕ) where
   pub run-ends : (at token i : ℕ) → Run p text at token i → (i < length text → p (getD text i 0) ≡ false) → NextToken text at (record { token = token; behind = i })
   run-ends at token i r n = token-ends text at (r .first) (r .rest) i (r .along) (λ h. goes-on at token i (getD text i 0) r ∙ n h) token (r .number)
 
--- Whether two bytes are `:=`, `<<` or `>>`.
+-- Whether two bytes are `:=`, `<<` or `>>`, by their number.
 abbrev pub pairs : ℕ → ℕ → Bool
-pairs c d = eqb c (code ":") && eqb d (code "=") || eqb c (code "<") && eqb d (code "<") || eqb c (code ">") && eqb d (code ">")
+pairs c d =
+    eqb (65536 + c * 256 + d) (spelt ":=") || eqb (65536 + c * 256 + d) (spelt "<<") || eqb (65536 + c * 256 + d) (spelt ">>")
 
 -- A byte that begins no run: a token by itself, or with the next byte.
 module _ (text : List ℕ) (at c : ℕ) (h : at < length text) (q : c ≡ getD text at 0) (l : c < 256) (b : BeginsSign c) where
-  pair-token : (d : ℕ) → oneToken (c ∷ d ∷ []) ≡ pairs c d
-  unfolding oneToken every same
-  pair-token d = rw (b .no-letter, b .no-digit, and-true (eqb d 61), and-true (eqb d 60), and-true (eqb d 62))
-
-  pair-whole : (d e : ℕ) → oneToken (c ∷ d ∷ e ∷ []) ≡ false
-  unfolding oneToken every same
-  pair-whole d e =
-      rw (
-        b .no-letter,
-        b .no-digit,
-        and-false (eqb d 61),
-        and-false (eqb d 60),
-        and-false (eqb d 62),
-        and-false (eqb c 58),
-        and-false (eqb c 60),
-        and-false (eqb c 62),
-      )
-
-  pair-in-line : (d : ℕ) → pairs c d ≡ true → d ≡ 10 → ⊥
-  pair-in-line d e z = true≢false (sym e ∙ ap (pairs c) z ∙ simp and-false)
-
   alone : Along text at (c ∷ []) (at + 1)
   alone = along-first text at c h q l (b .no-end) (b .no-space)
 
-  pub sign-alone : (at + 1 < length text → pairs c (getD text (at + 1) 0) ≡ false) → NextToken text at (record { token = 256 + c; behind = at + 1 })
-  sign-alone n = token-ends text at c [] (at + 1) alone (λ z. pair-token (getD text (at + 1) 0) ∙ n z) (256 + c) refl
+  number : (d : ℕ) → 65536 + c * 256 + d ≡ packed (c ∷ d ∷ [])
+  number d = rw (lt-ltb (256 + c) (2 ^ 33) (omega arith)) (omega arith)
+
+  by-number : (d : ℕ) (v : List ℕ) → d < 256 → short v ≡ true → same (c ∷ d ∷ []) v ≡ eqb (65536 + c * 256 + d) (numeral 1 v)
+  by-number d v m s = sym (ap (λ (n : ℕ). eqb n (numeral 1 v)) (number d) ∙ known (c ∷ d ∷ []) v (l, (m, tt)) s)
+
+  pair-token : (d : ℕ) → d < 256 → oneToken (c ∷ d ∷ []) ≡ pairs c d
+  unfolding oneToken every
+  pair-token d m =
+      rw (b .no-letter, b .no-digit, by-number d (58 ∷ 61 ∷ []) m refl, by-number d (60 ∷ 60 ∷ []) m refl, by-number d (62 ∷ 62 ∷ []) m refl)
+
+  no-third : (d e : ℕ) → oneToken (c ∷ d ∷ e ∷ []) ≡ false
+  unfolding oneToken every same
+  no-third d e = rw (b .no-letter, b .no-digit) (simp and-false)
+
+  in-line : (d : ℕ) → oneToken (c ∷ d ∷ []) ≡ true → d ≡ 10 → ⊥
+  unfolding oneToken every same
+  in-line d o z = true≢false (sym o ∙ rw (z, b .no-letter, b .no-digit) (simp and-false))
+
+  pub sign-alone : (at + 1 < length text → (getD text (at + 1) 0 < 256) × (pairs c (getD text (at + 1) 0) ≡ false))
+      → NextToken text at (record { token = 256 + c; behind = at + 1 })
+  sign-alone n = token-ends text at c [] (at + 1) alone (λ z. pair-token (getD text (at + 1) 0) (n z .0) ∙ n z .1) (256 + c) refl
 
   pub sign-pair : (d : ℕ) → at + 1 < length text → d ≡ getD text (at + 1) 0 → d < 256 → pairs c d ≡ true
       → NextToken text at (record { token = 65536 + c * 256 + d; behind = at + 1 + 1 })
   sign-pair d k r m e =
-      let a : Along text at (c ∷ d ∷ []) (at + 1 + 1) = along-more text (at + 1) d k r m (pair-in-line d e) at (c ∷ []) alone (pair-token d ∙ e) in
-      token-ends text at c (d ∷ []) (at + 1 + 1) a (λ z. pair-whole d (getD text (at + 1 + 1) 0)) (65536 + c * 256 + d)
-      (rw (lt-ltb (256 + c) (2 ^ 33) (omega arith)) (omega arith))
+      let o : oneToken (c ∷ d ∷ []) ≡ true = pair-token d m ∙ e in
+      token-ends text at c (d ∷ []) (at + 1 + 1) (along-more text (at + 1) d k r m (in-line d o) at (c ∷ []) alone o)
+      (λ z. no-third d (getD text (at + 1 + 1) 0)) (65536 + c * 256 + d) (number d)

@@ -237,10 +237,10 @@ fn sign_from(text: &[u8], at: usize) -> Scanned
     let c = wide(text[at]);
     let behind = at + 1;
     if behind < text.len() {
-        let d = wide(text[behind]);
-        if ((c == 58) & (d == 61)) | ((c == 60) & (d == 60)) | ((c == 62) & (d == 62)) {
+        let token = 65536 + c * 256 + wide(text[behind]);
+        if (token == ASSIGN) | (token == LEFT) | (token == RIGHT) {
             return Scanned {
-                token: 65536 + c * 256 + d,
+                token,
                 behind: behind + 1,
             };
         }
