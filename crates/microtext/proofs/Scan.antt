@@ -1,80 +1,44 @@
--- Scanning: what the code holds of the token under way stands for its bytes, byte by byte, up to the token's end.
-use Prim.Native.Nat.{ℕ, suc, _+_, _*_, _^_, _≤_, _<_}
+-- Scanning: the bytes of the token under way, with nothing of the line lost, up to the token's end.
+use Prim.Native.Nat.{ℕ, _+_, _*_, _^_, _≤_, _<_}
 use Prim.Native.Char.{code}
 use mathlib.Core.Path.{_≡_, refl, sym, ap, _∙_}
-use mathlib.Core.Bool.{Bool, true, false, cond, not, _&&_, _||_, and-true, and-false, and-assoc, false≢true, true≢false}
+use mathlib.Core.Bool.{Bool, true, false, cond, _&&_, _||_, and-true, and-false, and-assoc, or-false, true≢false}
 use mathlib.Core.List.{List, [], _∷_, _++_, map}
 use native.Mathlib.Numerals.{add-one}
 use native.Mathlib.Omega.{arith}
-use borrow.Author.Tests.{eqb-true, eqb-false, eq-eqb, ne-eqb}
-use lib.Dec.{eqb}
+use borrow.Author.Tests.{eqb-true, eqb-false, ltb-true, ltb-false, leb-true, eq-eqb, ne-eqb, lt-ltb, lt-leb}
+use lib.Dec.{leb, ltb, eqb}
 use lib.ListN.{length, getD, drop-of-length-le}
 use lib.Seq.{drop-cons}
 use Rattle.microtext.specs.Text.{same, before}
-use Rattle.microtext.specs.Tokens.{Token, letter, digit, every, oneToken, begun, under, ended, going, tokensAfter, tokens}
-use Rattle.microtext.specs.Progress.{grown, packed, seen, joins, begins, after, ends, codesAt, NextToken}
+use Rattle.microtext.specs.Tokens.{letter, digit, every, oneToken, begun, under, ended, going, tokensAfter, tokens}
+use Rattle.microtext.specs.Progress.{numeral, spelt, grown, packed, Spaces, BeginsSign, NextToken}
 use Rattle.microtext.specs.Reading.{lineAt, endAt}
-use Rattle.microtext.specs.declared.Under.{Under}
-use Rattle.microtext.proofs.Packed.{Bytes, bytes-append, packed-more, short, known, same-equal}
+use Rattle.microtext.specs.declared.Scanned.{Scanned}
+use Rattle.microtext.proofs.Packed.{Bytes, bytes-append, packed-more, short, known}
+use Rattle.microtext.proofs.Tests.{both}
 
 pub every-more : (p : ℕ → Bool) (t : List ℕ) (c : ℕ) → every p (t ++ c ∷ []) ≡ (every p t && p c)
 unfolding every
 every-more p [] c = and-true (p c)
 every-more p (x ∷ t) c = rw (every-more p t c) (sym (and-assoc (p x) (every p t) (p c)))
 
--- Two bytes that are one token: the first is under way, the second comes.
-same-none : (t : List ℕ) (c : ℕ) → same (t ++ c ∷ []) [] ≡ false
-unfolding same
-same-none [] c = refl
-same-none (x ∷ t) c = refl
-
-pub same-pair : (t : List ℕ) (c a b : ℕ) → same (t ++ c ∷ []) (a ∷ b ∷ []) ≡ (same t (a ∷ []) && eqb c b)
-unfolding same
-same-pair [] c a b = and-false (eqb c a)
-same-pair (x ∷ []) c a b = rw (and-true (eqb c b), and-true (eqb x a))
-same-pair (x ∷ y ∷ t) c a b = rw (same-none t c, and-false (eqb y b), and-false (eqb x a))
-
-module _ (t : List ℕ) (c : ℕ) (t-bytes : Bytes t) where
-  pair : (a b : ℕ) → short (a ∷ []) ≡ true → (eqb (packed t) (1 * 256 + a) && eqb c b) ≡ same (t ++ c ∷ []) (a ∷ b ∷ [])
-  pair a b s = rw (known t (a ∷ []) t-bytes s) (sym (same-pair t c a b))
-
-  pub joins-seen : joins (seen t) c ≡ oneToken (t ++ c ∷ [])
-  unfolding joins seen oneToken
-  joins-seen = rw (every-more letter t c, every-more digit t c, ← pair 58 61 refl, ← pair 60 60 refl, ← pair 62 62 refl)
-
-  begins-seen : begins c ≡ seen (begun c)
-  unfolding begins begun seen every
-  begins-seen = go (eqb c (code " "))
-    where
-      go : (b : Bool) → cond {A = Under} b (record { letters = true; digits = true; token = 1 }) (record { letters = letter c; digits = digit c; token = 256 + c }) ≡ seen (cond b [] (c ∷ []))
-      go true = refl
-      go false = rw (and-true (letter c), and-true (digit c))
-
-  pub after-seen : after (seen t) c ≡ seen (under t c)
-  unfolding after under seen
-  after-seen = rw joins-seen (go (oneToken (t ++ c ∷ [])))
-    where
-      more : _≡_ {A = Under} (record { letters = seen t .letters && letter c; digits = seen t .digits && digit c; token = grown (seen t .token) c }) (seen (t ++ c ∷ []))
-      more = rw (every-more letter t c, every-more digit t c, packed-more 1 t c)
-
-      go : (b : Bool) → cond {A = Under} b (record { letters = seen t .letters && letter c; digits = seen t .digits && digit c; token = grown (seen t .token) c }) (begins c)
-          ≡ seen (cond b (t ++ c ∷ []) (begun c))
-      go true = more
-      go false = begins-seen
-
--- Before the first byte of a line, and at its end.
+-- At the end of a line, and before a byte of it.
 module _ (text : List ℕ) (i : ℕ) where
-  pub line-goes-on : i < length text → (getD text i 0 ≡ 10 → ⊥) → lineAt text i ≡ getD text i 0 ∷ lineAt text (i + 1)
+  pub text-ends : length text ≤ i → lineAt text i ≡ []
   unfolding before
-  line-goes-on h n = rw (add-one, drop-cons text i 0 h, ne-eqb (getD text i 0) 10 n)
+  text-ends h = rw (drop-of-length-le text h)
 
   pub line-ends : i < length text → getD text i 0 ≡ 10 → lineAt text i ≡ []
   unfolding before
   line-ends h e = rw (drop-cons text i 0 h, eq-eqb (getD text i 0) 10 e)
 
-  pub text-ends : length text ≤ i → lineAt text i ≡ []
+  line-goes-on : i < length text → (getD text i 0 ≡ 10 → ⊥) → lineAt text i ≡ getD text i 0 ∷ lineAt text (i + 1)
   unfolding before
-  text-ends h = rw (drop-of-length-le text h)
+  line-goes-on h n = rw (add-one, drop-cons text i 0 h, ne-eqb (getD text i 0) 10 n)
+
+  end-stays : i < length text → (getD text i 0 ≡ 10 → ⊥) → endAt text (i + 1) ≡ endAt text i
+  end-stays h n = omega (arith, ap length (line-goes-on h n))
 
 -- A space is no token.
 blank : true ≡ oneToken (code " " ∷ []) → ⊥
@@ -99,71 +63,6 @@ tokens-first c s = go (oneToken (c ∷ [])) ∙ ap (λ (t : List ℕ). tokensAft
     go true = refl
     go false = refl
 
--- What the scanning of a token from `at` holds at i: the bytes of the token under way, with nothing of the line lost.
-pub record Along (text : List ℕ) (at : ℕ) (u : Under) (i : ℕ) : Type 0 where
-  pub token : List ℕ
-  pub held : u ≡ seen token
-  pub small : u .token < 2 ^ 41
-  pub token-bytes : Bytes token
-  pub kept : tokensAfter token (lineAt text i) ≡ tokens (lineAt text at)
-  pub same-end : endAt text i ≡ endAt text at
-  pub from : at ≤ i
-  pub inside : at < i → i ≤ length text
-  pub moved : (token ≡ [] → ⊥) → at < i
-
-pub along-start : (text : List ℕ) (at : ℕ) → Along text at (record { letters = true; digits = true; token = 1 }) at
-unfolding seen every
-along-start text at =
-    record {
-      token = [];
-      held = refl;
-      small = omega arith;
-      token-bytes = tt;
-      kept = refl;
-      same-end = refl;
-      from = omega arith;
-      inside = λ h. absurd (omega arith);
-      moved = λ n. absurd (n refl);
-    }
-
--- Whether a token is under way.
-none-seen : (t : List ℕ) → Bytes t → eqb (seen t .token) 1 ≡ same t []
-unfolding seen
-none-seen t b = known t [] b refl
-
-none-same : (t : List ℕ) → t ≡ [] → same t [] ≡ true
-unfolding same
-none-same t e = rw e
-
-none-ended : (t : List ℕ) (ts : List Token) → t ≡ [] → ended t ts ≡ ts
-unfolding ended
-none-ended t ts e = rw e
-
--- What it means that neither the token nor the line ends before the byte c.
-goes-on : (t : List ℕ) (c : ℕ) (s : List ℕ) → Bytes t → ends (seen t) c ≡ false
-    → (eqb c 10 ≡ false) × (tokensAfter t (c ∷ s) ≡ tokensAfter (under t c) s)
-unfolding ends tokensAfter going
-goes-on t c s b e = go (eqb c 10) (same t []) (oneToken (t ++ c ∷ [])) refl refl (rw (none-seen t b, joins-seen t c b) at e)
-  where
-    go : (l n j : Bool) → same t [] ≡ n → oneToken (t ++ c ∷ []) ≡ j → (l || not n && not j) ≡ false
-        → (l ≡ false) × (going j t (tokensAfter (under t c) s) ≡ tokensAfter (under t c) s)
-    go true n j p q r = absurd (true≢false r)
-    go false n true p q r = (refl, refl)
-    go false false false p q r = absurd (true≢false r)
-    go false true false p q r = (refl, none-ended t (tokensAfter (under t c) s) (same-equal t [] p))
-
--- What it means that one of them does.
-stops : (t : List ℕ) (c : ℕ) (s : List ℕ) → Bytes t → ends (seen t) c ≡ true → (c ≡ 10 → ⊥)
-    → (tokensAfter t (c ∷ s) ≡ ended t (tokens (c ∷ s))) × (t ≡ [] → ⊥)
-unfolding ends tokensAfter going under
-stops t c s b e l = go (same t []) (oneToken (t ++ c ∷ [])) refl refl (rw (ne-eqb c 10 l, none-seen t b, joins-seen t c b) at e)
-  where
-    go : (n j : Bool) → same t [] ≡ n → oneToken (t ++ c ∷ []) ≡ j → (not n && not j) ≡ true
-        → (going j t (tokensAfter (cond j (t ++ c ∷ []) (begun c)) s) ≡ ended t (tokens (c ∷ s))) × (t ≡ [] → ⊥)
-    go true j p q r = absurd (false≢true r)
-    go false true p q r = absurd (false≢true r)
-    go false false p q r = (ap (ended t) (sym (tokens-first c s)), λ z. true≢false (sym (none-same t z) ∙ p))
-
 begun-bytes : (c : ℕ) → c < 256 → Bytes (begun c)
 unfolding begun
 begun-bytes c h = go (eqb c (code " "))
@@ -180,79 +79,210 @@ under-bytes t c b h = go (oneToken (t ++ c ∷ []))
     go true = bytes-append t (c ∷ []) b (h, tt)
     go false = begun-bytes c h
 
--- One byte more.
-pub along-step : (text : List ℕ) (at i : ℕ) (u v : Under) (c : ℕ) → Along text at u i → i < length text → c ≡ getD text i 0 → c < 256
-    → ends u c ≡ false → v ≡ after u c → v .token < 2 ^ 41 → Along text at v (i + 1)
-along-step text at i u v c a h q l e w m =
-    let t = a .token in
-    let b : ends (seen t) c ≡ false = ap (λ (x : Under). ends x c) (sym (a .held)) ∙ e in
-    let s = lineAt text (i + 1) in
-    let g = goes-on t c s (a .token-bytes) b in
-    let n : getD text i 0 ≡ 10 → ⊥ = λ z. eqb-false c 10 (g .0) (q ∙ z) in
-    let p : lineAt text i ≡ c ∷ s = line-goes-on text i h n ∙ ap (λ (x : ℕ). x ∷ s) (sym q) in
-    let k : length (lineAt text i) ≡ suc (length s) = ap length p in
-    record {
-      token = under t c;
-      held = w ∙ ap (λ (x : Under). after x c) (a .held) ∙ after-seen t c (a .token-bytes);
-      small = m;
-      token-bytes = under-bytes t c (a .token-bytes) l;
-      kept = sym (g .1) ∙ ap (tokensAfter t) (sym p) ∙ a .kept;
-      same-end = same (a .same-end) k;
-      from = omega (arith, a .from);
-      inside = λ z. omega arith;
-      moved = λ z. omega (arith, a .from);
-    }
-  where
-    same : endAt text i ≡ endAt text at → length (lineAt text i) ≡ suc (length (lineAt text (i + 1))) → endAt text (i + 1) ≡ endAt text at
-    same x y = omega arith
+-- Spaces before a token, and what follows them.
+module _ (text : List ℕ) (at : ℕ) where
+  pub no-spaces : Spaces text at at
+  no-spaces = record { from = omega arith; codes = refl; line-end = refl }
 
--- The numbers of a token that is at its end and of those behind it.
-codes-ended : (t line : List ℕ) → Bytes t → (t ≡ [] → line ≡ []) → map packed (ended t (tokens line)) ≡ cond (eqb (packed t) 1) [] (packed t ∷ map packed (tokens line))
-unfolding ended tokensAfter same
-codes-ended [] line b e = rw (e refl)
-codes-ended (c ∷ t) line b e = rw (known (c ∷ t) [] b refl)
-
--- The token, or the line, is at its end.
-module _ (text : List ℕ) (at i : ℕ) (u : Under) (a : Along text at u i)
-    (first : tokensAfter (a .token) (lineAt text i) ≡ ended (a .token) (tokens (lineAt text i))) (last : a .token ≡ [] → lineAt text i ≡ []) where
-  number : u .token ≡ packed (a .token)
-  unfolding seen
-  number = ap (λ (x : Under). x .token) (a .held)
-
-  none : u .token ≡ 1 → a .token ≡ []
-  none e = same-equal (a .token) [] (sym (known (a .token) [] (a .token-bytes) refl) ∙ eq-eqb (packed (a .token)) 1 (sym number ∙ e))
-
-  some : (u .token ≡ 1 → ⊥) → a .token ≡ [] → ⊥
-  some n e = n (number ∙ ap packed e)
-
-  stopped : NextToken text at (record { token = u .token; behind = i })
-  stopped =
+  pub one-space : (i : ℕ) → Spaces text at i → i < length text → getD text i 0 ≡ code " " → Spaces text at (i + 1)
+  unfolding begun
+  one-space i s h e =
+      let n : getD text i 0 ≡ 10 → ⊥ = λ z. omega arith in
+      let p : lineAt text i ≡ code " " ∷ lineAt text (i + 1) = line-goes-on text i h n ∙ ap (λ (c : ℕ). c ∷ lineAt text (i + 1)) e in
       record {
-        codes =
-            ap (map packed) (sym (a .kept) ∙ first) ∙ codes-ended (a .token) (lineAt text i) (a .token-bytes) last
-            ∙ ap (λ (n : ℕ). cond (eqb n 1) [] (n ∷ codesAt text i)) (sym number);
-        line-end = a .same-end;
-        none = λ e. omega (arith, ap length (last (none e)), a .same-end);
-        some = λ n. (a .moved (some n), a .inside (a .moved (some n)));
+        from = omega (arith, s .from);
+        codes = sym (ap (map packed) (ap tokens p ∙ tokens-first (code " ") (lineAt text (i + 1)))) ∙ s .codes;
+        line-end = end-stays text i h n ∙ s .line-end;
       }
 
--- At the end of the text or of the line, and before a byte that goes on with nothing.
-module _ (text : List ℕ) (at i : ℕ) (u : Under) (a : Along text at u i) where
-  at-end : lineAt text i ≡ [] → NextToken text at (record { token = u .token; behind = i })
+  pub behind-spaces : (i : ℕ) (r : Scanned) → Spaces text at i → NextToken text i r → NextToken text at r
+  behind-spaces i r s n =
+      record {
+        codes = sym (s .codes) ∙ n .codes;
+        line-end = n .line-end ∙ s .line-end;
+        none = λ e. n .none e ∙ s .line-end;
+        some = λ e. (omega (arith, s .from, n .some e .0), n .some e .1);
+      }
+
+  pub no-token : lineAt text at ≡ [] → NextToken text at (record { token = 1; behind = at })
   unfolding tokensAfter ended
-  at-end e = stopped text at i u a (rw e) (λ n. e)
+  no-token e =
+      record {
+        codes = rw e;
+        line-end = refl;
+        none = λ z. omega (arith, ap length e);
+        some = λ n. absurd (n refl);
+      }
 
-  pub token-at-end : length text ≤ i → NextToken text at (record { token = u .token; behind = i })
-  token-at-end h = at-end (text-ends text i h)
+-- What the scanning of the token t from `at` holds at i.
+pub record Along (text : List ℕ) (at : ℕ) (t : List ℕ) (i : ℕ) : Type 0 where
+  pub token-bytes : Bytes t
+  pub kept : tokensAfter t (lineAt text i) ≡ tokens (lineAt text at)
+  pub same-end : endAt text i ≡ endAt text at
+  pub from : at < i
+  pub inside : i ≤ length text
 
-  pub token-before : (c : ℕ) → i < length text → c ≡ getD text i 0 → ends u c ≡ true → NextToken text at (record { token = u .token; behind = i })
-  token-before c h q e = go (eqb c 10) refl
+-- Its first byte, and one byte more.
+module _ (text : List ℕ) (i c : ℕ) (h : i < length text) (q : c ≡ getD text i 0) (l : c < 256) (n : c ≡ 10 → ⊥) where
+  line : lineAt text i ≡ c ∷ lineAt text (i + 1)
+  line = line-goes-on text i h (λ z. n (q ∙ z)) ∙ ap (λ (x : ℕ). x ∷ lineAt text (i + 1)) (sym q)
+
+  pub along-first : (c ≡ code " " → ⊥) → Along text i (c ∷ []) (i + 1)
+  unfolding begun
+  along-first s =
+      record {
+        token-bytes = (l, tt);
+        kept = sym (ap tokens line ∙ tokens-first c (lineAt text (i + 1)) ∙ rw (ne-eqb c (code " ") s));
+        same-end = end-stays text i h (λ z. n (q ∙ z));
+        from = omega arith;
+        inside = omega arith;
+      }
+
+  pub along-more : (at : ℕ) (t : List ℕ) → Along text at t i → oneToken (t ++ c ∷ []) ≡ true → Along text at (t ++ c ∷ []) (i + 1)
+  unfolding tokensAfter going under
+  along-more at t a o =
+      record {
+        token-bytes = bytes-append t (c ∷ []) (a .token-bytes) (l, tt);
+        kept = sym (ap (tokensAfter t) line ∙ rw o) ∙ a .kept;
+        same-end = end-stays text i h (λ z. n (q ∙ z)) ∙ a .same-end;
+        from = omega (arith, a .from);
+        inside = omega arith;
+      }
+
+-- The token ends where the next byte, if there is one, does not go on with it.
+module _ (text : List ℕ) (at x : ℕ) (t : List ℕ) (i : ℕ) (a : Along text at (x ∷ t) i)
+    (apart : i < length text → oneToken (x ∷ t ++ getD text i 0 ∷ []) ≡ false) where
+  ends : tokensAfter (x ∷ t) (lineAt text i) ≡ (x ∷ t) ∷ tokens (lineAt text i)
+  unfolding tokensAfter going ended under
+  ends = go (ltb i (length text)) (eqb (getD text i 0) 10) refl refl
     where
-      go : (b : Bool) → eqb c 10 ≡ b → NextToken text at (record { token = u .token; behind = i })
-      go true l = at-end (line-ends text i h (sym q ∙ eqb-true c 10 l))
-      go false l =
-          let n : c ≡ 10 → ⊥ = eqb-false c 10 l in
-          let p : lineAt text i ≡ c ∷ lineAt text (i + 1) = line-goes-on text i h (λ z. n (q ∙ z)) ∙ ap (λ (x : ℕ). x ∷ lineAt text (i + 1)) (sym q) in
-          let b : ends (seen (a .token)) c ≡ true = ap (λ (x : Under). ends x c) (sym (a .held)) ∙ e in
-          let s = stops (a .token) c (lineAt text (i + 1)) (a .token-bytes) b n in
-          stopped text at i u a (rw p (s .0)) (λ z. absurd (s .1 z))
+      go : (b e : Bool) → ltb i (length text) ≡ b → eqb (getD text i 0) 10 ≡ e → tokensAfter (x ∷ t) (lineAt text i) ≡ (x ∷ t) ∷ tokens (lineAt text i)
+      go false e p q = rw (text-ends text i (ltb-false i (length text) p))
+      go true true p q = rw (line-ends text i (ltb-true i (length text) p) (eqb-true (getD text i 0) 10 q))
+      go true false p q =
+          let h : i < length text = ltb-true i (length text) p in
+          rw (line-goes-on text i h (eqb-false (getD text i 0) 10 q), tokens-first (getD text i 0) (lineAt text (i + 1))) (rw (apart h))
+
+  some : eqb (packed (x ∷ t)) 1 ≡ false
+  unfolding same
+  some = known (x ∷ t) [] (a .token-bytes) refl
+
+  pub token-ends : (token : ℕ) → token ≡ packed (x ∷ t) → NextToken text at (record { token = token; behind = i })
+  token-ends token e =
+      record {
+        codes = rw (e, some) (ap (map packed) (sym (a .kept) ∙ ends));
+        line-end = a .same-end;
+        none = λ z. absurd (eqb-false (packed (x ∷ t)) 1 some (sym e ∙ z));
+        some = λ z. (a .from, a .inside);
+      }
+
+-- A class of bytes whose runs are tokens: a token that begins in it is a run of it.
+pub record Class (p : ℕ → Bool) : Type 0 where
+  pub runs : (x : ℕ) (t : List ℕ) → p x ≡ true → oneToken (x ∷ t) ≡ every p (x ∷ t)
+  pub no-space : p (code " ") ≡ false
+  pub no-end : p 10 ≡ false
+
+pub letters : Class letter
+unfolding oneToken every same
+letters = record { runs = runs; no-space = refl; no-end = refl }
+  where
+    runs : (x : ℕ) (t : List ℕ) → letter x ≡ true → oneToken (x ∷ t) ≡ every letter (x ∷ t)
+    runs x t e =
+        let h : 97 ≤ x = leb-true 97 x (both (leb 97 x) (leb x 122) e .0) in
+        simp (lt-leb x 57 (omega arith), ne-eqb x 58 (λ z. omega arith), ne-eqb x 60 (λ z. omega arith), ne-eqb x 62 (λ z. omega arith), and-false, or-false)
+
+pub digits : Class digit
+unfolding oneToken every same
+digits = record { runs = runs; no-space = refl; no-end = refl }
+  where
+    runs : (x : ℕ) (t : List ℕ) → digit x ≡ true → oneToken (x ∷ t) ≡ every digit (x ∷ t)
+    runs x t e =
+        let h : x ≤ 57 = leb-true x 57 (both (leb 48 x) (leb x 57) e .1) in
+        simp (lt-leb 97 x (omega arith), ne-eqb x 58 (λ z. omega arith), ne-eqb x 60 (λ z. omega arith), ne-eqb x 62 (λ z. omega arith), or-false)
+
+-- What the scanning of a run from `at` holds at i.
+pub record Run (p : ℕ → Bool) (text : List ℕ) (at token i : ℕ) : Type 0 where
+  pub first : ℕ
+  pub rest : List ℕ
+  pub all : every p (first ∷ rest) ≡ true
+  pub number : token ≡ packed (first ∷ rest)
+  pub small : token < 2 ^ 41
+  pub along : Along text at (first ∷ rest) i
+
+module _ (p : ℕ → Bool) (of-class : Class p) (text : List ℕ) where
+  -- A run goes on with a byte just where the class has it.
+  goes-on : (at token i c : ℕ) (r : Run p text at token i) → oneToken (r .first ∷ r .rest ++ c ∷ []) ≡ p c
+  unfolding every
+  goes-on at token i c r =
+      of-class .runs (r .first) (r .rest ++ c ∷ []) (both (p (r .first)) (every p (r .rest)) (r .all) .0)
+      ∙ every-more p (r .first ∷ r .rest) c ∙ rw (r .all)
+
+  module _ (i c : ℕ) (h : i < length text) (q : c ≡ getD text i 0) (l : c < 256) (e : p c ≡ true) where
+    no-end : c ≡ 10 → ⊥
+    no-end z = true≢false (sym e ∙ ap p z ∙ of-class .no-end)
+
+    pub run-first : Run p text i (256 + c) (i + 1)
+    unfolding every
+    run-first =
+        record {
+          first = c;
+          rest = [];
+          all = rw e;
+          number = refl;
+          small = omega arith;
+          along = along-first text i c h q l no-end (λ z. true≢false (sym e ∙ ap p z ∙ of-class .no-space));
+        }
+
+    pub run-more : (at token next : ℕ) → Run p text at token i → next ≡ grown token c → next < 2 ^ 41 → Run p text at next (i + 1)
+    run-more at token next r g s =
+        record {
+          first = r .first;
+          rest = r .rest ++ c ∷ [];
+          all = every-more p (r .first ∷ r .rest) c ∙ rw (r .all, e);
+          number = g ∙ ap (λ (x : ℕ). grown x c) (r .number) ∙ sym (packed-more 1 (r .first ∷ r .rest) c);
+          small = s;
+          along = along-more text i c h q l no-end at (r .first ∷ r .rest) (r .along) (goes-on at token i c r ∙ e);
+        }
+
+  pub run-ends : (at token i : ℕ) → Run p text at token i → (i < length text → p (getD text i 0) ≡ false) → NextToken text at (record { token = token; behind = i })
+  run-ends at token i r n = token-ends text at (r .first) (r .rest) i (r .along) (λ h. goes-on at token i (getD text i 0) r ∙ n h) token (r .number)
+
+-- Whether two bytes are `:=`, `<<` or `>>`, by their number.
+abbrev pub pairs : ℕ → ℕ → Bool
+pairs c d =
+    eqb (65536 + c * 256 + d) (spelt ":=") || eqb (65536 + c * 256 + d) (spelt "<<") || eqb (65536 + c * 256 + d) (spelt ">>")
+
+-- A byte that begins no run: a token by itself, or with the next byte.
+module _ (text : List ℕ) (at c : ℕ) (h : at < length text) (q : c ≡ getD text at 0) (l : c < 256) (b : BeginsSign c) where
+  alone : Along text at (c ∷ []) (at + 1)
+  alone = along-first text at c h q l (b .no-end) (b .no-space)
+
+  number : (d : ℕ) → 65536 + c * 256 + d ≡ packed (c ∷ d ∷ [])
+  number d = rw (lt-ltb (256 + c) (2 ^ 33) (omega arith)) (omega arith)
+
+  by-number : (d : ℕ) (v : List ℕ) → d < 256 → short v ≡ true → same (c ∷ d ∷ []) v ≡ eqb (65536 + c * 256 + d) (numeral 1 v)
+  by-number d v m s = sym (ap (λ (n : ℕ). eqb n (numeral 1 v)) (number d) ∙ known (c ∷ d ∷ []) v (l, (m, tt)) s)
+
+  pair-token : (d : ℕ) → d < 256 → oneToken (c ∷ d ∷ []) ≡ pairs c d
+  unfolding oneToken every
+  pair-token d m =
+      rw (b .no-letter, b .no-digit, by-number d (58 ∷ 61 ∷ []) m refl, by-number d (60 ∷ 60 ∷ []) m refl, by-number d (62 ∷ 62 ∷ []) m refl)
+
+  no-third : (d e : ℕ) → oneToken (c ∷ d ∷ e ∷ []) ≡ false
+  unfolding oneToken every same
+  no-third d e = rw (b .no-letter, b .no-digit) (simp and-false)
+
+  in-line : (d : ℕ) → oneToken (c ∷ d ∷ []) ≡ true → d ≡ 10 → ⊥
+  unfolding oneToken every same
+  in-line d o z = true≢false (sym o ∙ rw (z, b .no-letter, b .no-digit) (simp and-false))
+
+  pub sign-alone : (at + 1 < length text → (getD text (at + 1) 0 < 256) × (pairs c (getD text (at + 1) 0) ≡ false))
+      → NextToken text at (record { token = 256 + c; behind = at + 1 })
+  sign-alone n = token-ends text at c [] (at + 1) alone (λ z. pair-token (getD text (at + 1) 0) (n z .0) ∙ n z .1) (256 + c) refl
+
+  pub sign-pair : (d : ℕ) → at + 1 < length text → d ≡ getD text (at + 1) 0 → d < 256 → pairs c d ≡ true
+      → NextToken text at (record { token = 65536 + c * 256 + d; behind = at + 1 + 1 })
+  sign-pair d k r m e =
+      let o : oneToken (c ∷ d ∷ []) ≡ true = pair-token d m ∙ e in
+      token-ends text at c (d ∷ []) (at + 1 + 1) (along-more text (at + 1) d k r m (in-line d o) at (c ∷ []) alone o)
+      (λ z. no-third d (getD text (at + 1 + 1) 0)) (65536 + c * 256 + d) (number d)

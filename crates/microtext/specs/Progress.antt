@@ -4,12 +4,12 @@ use Prim.Native.Nat.{ℕ, suc, _+_, _-_, _*_, _/_, _%_, _^_, _≤_, _<_}
 use Prim.Native.Char.{code}
 use Prim.Native.String.{String}
 use mathlib.Core.Path.{_≡_}
-use mathlib.Core.Bool.{Bool, true, false, cond, not, _&&_, _||_}
+use mathlib.Core.Bool.{Bool, true, false, cond, _&&_}
 use mathlib.Core.List.{List, [], _∷_, map}
 use lib.Dec.{leb, ltb, eqb}
 use lib.ListN.{length}
 use Rattle.microtext.specs.Text.{bytes}
-use Rattle.microtext.specs.Tokens.{letter, digit, every, tokens}
+use Rattle.microtext.specs.Tokens.{letter, digit, tokens}
 use Rattle.microtext.specs.Line.{foreign, add, settled, nothing}
 use Rattle.microtext.specs.Reading.{lineAt, endAt}
 use Rattle.microtext.specs.declared.Part.{Part}
@@ -18,7 +18,6 @@ use Rattle.microtext.specs.declared.Place.{Place}
 use Rattle.microtext.specs.declared.Place.the-variants.{Start, Named, Assigned, Opened, Shift, First, Sign, Closing, If, Tested, Then, Goto, Whole, Wrong}
 use Rattle.microtext.specs.declared.Given.{Given}
 use Rattle.microtext.specs.declared.Parts.{Parts}
-use Rattle.microtext.specs.declared.Under.{Under}
 use Rattle.microtext.specs.declared.Scanned.{Scanned}
 use Rattle.microtext.specs.declared.Fault.the-variants.{Ungrammatical}
 use Rattle.microtext.specs.declared.Meaning.{Meaning}
@@ -43,29 +42,22 @@ packedAfter n (c ∷ t) = packedAfter (grown n c) t
 abbrev pub packed : List ℕ → ℕ
 packed t = packedAfter 1 t
 
--- What the code holds of the token under way.
-unfoldable pub seen : List ℕ → Under
-seen t = record { letters = every letter t; digits = every digit t; token = packed t }
-
--- Whether the byte c goes on with it.
-unfoldable pub joins : Under → ℕ → Bool
-joins u c =
-    u .letters && letter c || u .digits && digit c || eqb (u .token) (spelt ":") && eqb c (code "=") || eqb (u .token) (spelt "<") && eqb c (code "<")
-    || eqb (u .token) (spelt ">") && eqb c (code ">")
-
-unfoldable pub begins : ℕ → Under
-begins c = cond (eqb c (code " ")) (record { letters = true; digits = true; token = 1 }) (record { letters = letter c; digits = digit c; token = 256 + c })
-
-unfoldable pub after : Under → ℕ → Under
-after u c = cond (joins u c) (record { letters = u .letters && letter c; digits = u .digits && digit c; token = grown (u .token) c }) (begins c)
-
--- Whether the token, or the line, ends before the byte c.
-unfoldable pub ends : Under → ℕ → Bool
-ends u c = eqb c 10 || not (eqb (u .token) 1) && not (joins u c)
-
 -- The tokens of the line that goes on at `at`, as numbers.
 abbrev pub codesAt : List ℕ → ℕ → List ℕ
 codesAt text at = map packed (tokens (lineAt text at))
+
+-- Only spaces stand from `at` up to i: what follows is the same from both.
+pub record Spaces (text : List ℕ) (at i : ℕ) : Type 0 where
+  pub from : at ≤ i
+  pub codes : codesAt text i ≡ codesAt text at
+  pub line-end : endAt text i ≡ endAt text at
+
+-- A byte that begins a token, and no run.
+pub record BeginsSign (c : ℕ) : Type 0 where
+  pub no-letter : letter c ≡ false
+  pub no-digit : digit c ≡ false
+  pub no-space : c ≡ code " " → ⊥
+  pub no-end : c ≡ 10 → ⊥
 
 -- The next token of a line and the place behind it; 1 and the line's end where there is none.
 pub record NextToken (text : List ℕ) (at : ℕ) (r : Scanned) : Type 0 where

@@ -1,21 +1,15 @@
 // Micro text: what one line of it means. A line is scanned once, token by token, and each token moves a part along.
 ghost use mathlib.Core.Path.{_≡_};
 ghost use Prim.Native.Nat.{_+_, _<_, _^_};
-ghost use mathlib.Core.Bool.{cond};
+ghost use mathlib.Core.Bool.{cond, true};
 ghost use lib.Dec.{ltb, eqb};
+ghost use lib.ListN.{length, getD};
 ghost use Rattle.microtext.specs.Tokens.{letter, digit};
 ghost use Rattle.microtext.specs.Line.{foreign as foreignPart, add as addTo, clash as clashOf, settled as settledBy};
-ghost use Rattle.microtext.specs.Progress.{joins as joinsOn, begins, after as afterByte, ends as endsBefore, grown as grownBy, NextToken, registerOf, destinationOf, numberOf, completed as completedBy, fromStart, fromValue, fromShift, fromFirst, fromSign, fromGoto, advance as advanceTo, finished as finishedAt, closed as closedBy, taken as takenBy, allTaken, concluded as concludedBy, noParts, codesAt};
+ghost use Rattle.microtext.specs.Progress.{grown as grownBy, BeginsSign, Spaces, NextToken, registerOf, destinationOf, numberOf, completed as completedBy, fromStart, fromValue, fromShift, fromFirst, fromSign, fromGoto, advance as advanceTo, finished as finishedAt, closed as closedBy, taken as takenBy, allTaken, concluded as concludedBy, noParts, codesAt};
 ghost use Rattle.microtext.specs.Reading.{reading as readingOf, nextLine, readingAt};
 use microword::Fields;
 use word::Line;
-
-// The token under way: whether it is all letters, all digits, and its bytes as a number behind a 1.
-pub struct Under {
-    pub letters: bool,
-    pub digits: bool,
-    pub token: u64,
-}
 
 // A token, and the place behind it.
 pub struct Scanned {
@@ -173,17 +167,6 @@ fn is_digit(c: u64) -> bool
     (48 <= c) & (c <= 57)
 }
 
-// Whether a byte goes on with the token under way.
-fn joins(u: Under, c: u64) -> bool
-    ensures { λ r. ⌜ r ≡ joinsOn u c ⌝ }
-{
-    (u.letters & is_letter(c))
-        | (u.digits & is_digit(c))
-        | ((u.token == 0x13a) & (c == 61))
-        | ((u.token == 0x13c) & (c == 60))
-        | ((u.token == 0x13e) & (c == 62))
-}
-
 // A token's number with one byte more; the fifth byte is the last that counts.
 fn grown(token: u64, c: u64) -> u64
     requires { ⌜ (token < 2 ^ 41) × (c < 256) ⌝ }
@@ -195,73 +178,104 @@ fn grown(token: u64, c: u64) -> u64
     token
 }
 
-// What a byte begins.
-fn begun(c: u64) -> Under
-    requires { ⌜ c < 256 ⌝ }
-    ensures { λ r. ⌜ r ≡ begins c ⌝ }
+// The first place from `at` on that is no space.
+fn past_spaces(text: &[u8], at: usize) -> usize
+    ensures { λ r. ⌜ Spaces (now (text .entry)) at r ⌝ }
+    ensures { λ r. ⌜ (r < length (now (text .entry)) → getD (now (text .entry)) r 0 ≡ 32 → ⊥) ⌝ }
 {
-    if c == 32 {
-        return Under {
-            letters: true,
-            digits: true,
-            token: NONE,
-        };
+    let mut i = at;
+    while i < text.len() {
+        if text[i] != 32 {
+            return i;
+        }
+        i += 1;
     }
-    Under {
-        letters: is_letter(c),
-        digits: is_digit(c),
+    i
+}
+
+// The run of letters that begins at `at`.
+fn word_from(text: &[u8], at: usize) -> Scanned
+    requires { ⌜ (at < length (now text)) × (letter (getD (now text) at 0) ≡ true) ⌝ }
+    ensures { λ r. ⌜ NextToken (now (text .entry)) at r ⌝ }
+{
+    let mut token = 256 + wide(text[at]);
+    let mut i = at + 1;
+    while i < text.len() {
+        let c = wide(text[i]);
+        if !is_letter(c) {
+            return Scanned { token, behind: i };
+        }
+        token = grown(token, c);
+        i += 1;
+    }
+    Scanned { token, behind: i }
+}
+
+// The run of digits that begins at `at`.
+fn number_from(text: &[u8], at: usize) -> Scanned
+    requires { ⌜ (at < length (now text)) × (digit (getD (now text) at 0) ≡ true) ⌝ }
+    ensures { λ r. ⌜ NextToken (now (text .entry)) at r ⌝ }
+{
+    let mut token = 256 + wide(text[at]);
+    let mut i = at + 1;
+    while i < text.len() {
+        let c = wide(text[i]);
+        if !is_digit(c) {
+            return Scanned { token, behind: i };
+        }
+        token = grown(token, c);
+        i += 1;
+    }
+    Scanned { token, behind: i }
+}
+
+// The token that any other byte begins: that byte, or `:=`, `<<`, `>>`.
+fn sign_from(text: &[u8], at: usize) -> Scanned
+    requires { ⌜ (at < length (now text)) × BeginsSign (getD (now text) at 0) ⌝ }
+    ensures { λ r. ⌜ NextToken (now (text .entry)) at r ⌝ }
+{
+    let c = wide(text[at]);
+    let behind = at + 1;
+    if behind < text.len() {
+        let token = 65536 + c * 256 + wide(text[behind]);
+        if (token == ASSIGN) | (token == LEFT) | (token == RIGHT) {
+            return Scanned {
+                token,
+                behind: behind + 1,
+            };
+        }
+    }
+    Scanned {
         token: 256 + c,
+        behind,
     }
-}
-
-// The token under way behind a byte.
-fn after(u: Under, c: u64) -> Under
-    requires { ⌜ (u .token < 2 ^ 41) × (c < 256) ⌝ }
-    ensures { λ r. ⌜ (r ≡ afterByte u c) × (r .token < 2 ^ 41) ⌝ }
-{
-    if joins(u, c) {
-        let token = grown(u.token, c);
-        return Under {
-            letters: u.letters & is_letter(c),
-            digits: u.digits & is_digit(c),
-            token,
-        };
-    }
-    begun(c)
-}
-
-// Whether the token, or the line, ends before a byte.
-fn ends(u: Under, c: u64) -> bool
-    ensures { λ r. ⌜ r ≡ endsBefore u c ⌝ }
-{
-    (c == 10) | ((u.token != NONE) & !joins(u, c))
 }
 
 // The next token of the line that goes on at `at`.
 fn next_token(text: &[u8], at: usize) -> Scanned
     ensures { λ r. ⌜ NextToken (now (text .entry)) at r ⌝ }
 {
-    let mut u = Under {
-        letters: true,
-        digits: true,
-        token: NONE,
-    };
-    let mut i = at;
-    while i < text.len() {
-        let c = wide(text[i]);
-        if ends(u, c) {
-            return Scanned {
-                token: u.token,
-                behind: i,
-            };
-        }
-        u = after(u, c);
-        i += 1;
+    let i = past_spaces(text, at);
+    if text.len() <= i {
+        return Scanned {
+            token: NONE,
+            behind: i,
+        };
     }
-    Scanned {
-        token: u.token,
-        behind: i,
+    let c = wide(text[i]);
+    if c == 10 {
+        return Scanned {
+            token: NONE,
+            behind: i,
+        };
     }
+    if is_letter(c) {
+        return word_from(text, i);
+    }
+    if is_digit(c) {
+        return number_from(text, i);
+    }
+    sign_from(text, i)
 }
 
 // A register's number, or 8.

@@ -2,7 +2,7 @@
 use Prim.Native.Nat.{ℕ, _<_}
 use Prim.Native.Char.{code}
 use mathlib.Core.Path.{_≡_, refl, sym, ap, ap₂, _∙_}
-use mathlib.Core.Bool.{Bool, true, false, not, _||_, and-false, false≢true}
+use mathlib.Core.Bool.{Bool, true, false, not, _&&_, _||_, and-true, and-false, false≢true}
 use mathlib.Core.List.{List, [], _∷_, _++_, map}
 use borrow.Author.Tests.{not-true}
 use lib.Dec.{eqb}
@@ -12,7 +12,7 @@ use Rattle.microtext.specs.Grammar.{part}
 use Rattle.microtext.specs.Line.{cut, divided, lastPart, parts}
 use Rattle.microtext.specs.declared.Part.{Part}
 use Rattle.microtext.proofs.Tests.{both}
-use Rattle.microtext.proofs.Scan.{every-more, same-pair}
+use Rattle.microtext.proofs.Scan.{every-more}
 use Rattle.microtext.proofs.Whole.{divided-some}
 use Rattle.way_back.proofs.Printed.{undivided}
 
@@ -27,6 +27,18 @@ none-of false false false true e h = absurd (false≢true h)
 none-of false false true d e h = absurd (false≢true h)
 none-of false true c d e h = absurd (false≢true h)
 none-of true b c d e h = absurd (false≢true h)
+
+-- Two bytes that are one token: the first is under way, the second comes.
+same-none : (t : List ℕ) (c : ℕ) → same (t ++ c ∷ []) [] ≡ false
+unfolding same
+same-none [] c = refl
+same-none (x ∷ t) c = refl
+
+same-pair : (t : List ℕ) (c a b : ℕ) → same (t ++ c ∷ []) (a ∷ b ∷ []) ≡ (same t (a ∷ []) && eqb c b)
+unfolding same
+same-pair [] c a b = and-false (eqb c a)
+same-pair (x ∷ []) c a b = rw (and-true (eqb c b), and-true (eqb x a))
+same-pair (x ∷ y ∷ t) c a b = rw (same-none t c, and-false (eqb y b), and-false (eqb x a))
 
 never-joins : (c : ℕ) → apart c ≡ true → (t : List ℕ) → oneToken (t ++ c ∷ []) ≡ false
 unfolding oneToken

@@ -1,75 +1,97 @@
--- `next_token` scans one token: the loop holds what `Along` says, and stops where the token or the line ends.
-use mathlib.Core.Path.{sym, _∙_}
-use lib.ListN.{length}
-use native.Mathlib.Omega.{arith}
-use Prim.Native.Nat.{_-_}
+-- `next_token` goes by the first byte that is no space; what follows the spaces is the line's next token.
+use mathlib.Core.Path.{sym, ap, _∙_}
 use denote.Ref.{now}
-use Rattle.microtext.proofs.Scan.{Along, along-start, along-step, token-at-end, token-before}
+use Rattle.microtext.specs.Tokens.{letter, digit}
+use Rattle.microtext.proofs.Scan.{text-ends, line-ends, behind-spaces, no-token}
 use borrow.Author.Needs.{needs}
 use Rattle.microtext.proofs.next_token.Statement.{statement}
 use Rattle.microtext.proofs.next_token.Tie as tie
 
-abbrev Inv-loop : tie.InvT-loop
-Inv-loop text at u₀ i₀ u i = Along text at u i
+past-spaces-requires : tie.Need-past-spaces-requires
+past-spaces-requires c κs = search needs
 
-abbrev μ-loop : tie.MeasureT-loop
-μ-loop text at u₀ i₀ u i = length text - i
+returns : tie.Need-returns
+returns c =
+    let s = c .before .before .before in
+    let p = c .before .past-spaces in
+    behind-spaces (now (s .args .text)) (s .args .at) (p .result) _ (p .ensures .0)
+    (no-token (now (s .args .text)) (p .result) (text-ends (now (s .args .text)) (p .result) (c .if1 .taken)))
 
-loop-holds : tie.Need-loop-holds Inv-loop μ-loop
-loop-holds c = along-start (now (c .before .args .text)) (c .before .args .at)
+shared-slice-read-wide : tie.Need-shared-slice-read-wide
+shared-slice-read-wide c = search needs
 
-shared-slice-read-wide : tie.Need-shared-slice-read-wide Inv-loop μ-loop
-shared-slice-read-wide c = omega arith
-
-wide-requires : tie.Need-wide-requires Inv-loop μ-loop
+wide-requires : tie.Need-wide-requires
 wide-requires c κs = search needs
 
-ends-requires : tie.Need-ends-requires Inv-loop μ-loop
-ends-requires c κs = search needs
-
-returns : tie.Need-returns Inv-loop μ-loop
-returns c =
-    let s = c .before .before .before .before .before .before .before in
-    let l = c .before .before .before .before .before .loop in
-    token-before (now (s .args .text)) (s .args .at) (l .i) (l .u) (l .inv) (c .before .before .wide .result) (c .before .before .before .before .loop-test .taken)
-    (c .before .before .wide .ensures .0) (sym (c .before .ends .ensures) ∙ c .if1 .taken)
-
-after-requires : tie.Need-after-requires Inv-loop μ-loop
-after-requires c κs = (c .before .before .before .before .before .loop .inv .small, c .before .before .wide .ensures .1)
-
-add-i : tie.Need-add-i Inv-loop μ-loop
-add-i c = omega arith
-
-loop-less : tie.Need-loop-less Inv-loop μ-loop
-loop-less c = omega arith
-
-loop-again : tie.Need-loop-again Inv-loop μ-loop
-loop-again c =
-    let s = c .before .before .before .before .before .before .before .before in
-    let l = c .before .before .before .before .before .before .loop in
-    along-step (now (s .args .text)) (s .args .at) (l .i) (l .u) (c .after .result) (c .before .before .before .wide .result) (l .inv)
-    (c .before .before .before .before .before .loop-test .taken) (c .before .before .before .wide .ensures .0) (c .before .before .before .wide .ensures .1)
-    (sym (c .before .before .ends .ensures) ∙ c .before .if1 .left) (c .after .ensures .0) (c .after .ensures .1)
-
-returns-2 : tie.Need-returns-2 Inv-loop μ-loop
+returns-2 : tie.Need-returns-2
 returns-2 c =
-    let s = c .before .before .before in
-    let l = c .before .loop in
-    token-at-end (now (s .args .text)) (s .args .at) (l .i) (l .u) (l .inv) (c .loop-test .left)
+    let s = c .before .before .before .before .before .before in
+    let p = c .before .before .before .before .past-spaces in
+    behind-spaces (now (s .args .text)) (s .args .at) (p .result) _ (p .ensures .0)
+    (no-token (now (s .args .text)) (p .result)
+    (line-ends (now (s .args .text)) (p .result) (c .before .before .before .if1 .left) (sym (c .before .wide .ensures .0) ∙ c .if2 .taken)))
+
+is-letter-requires : tie.Need-is-letter-requires
+is-letter-requires c κs = search needs
+
+word-from-requires : tie.Need-word-from-requires
+word-from-requires c κs =
+    let e = c .before .before .before .wide .ensures .0 in
+    (c .before .before .before .before .before .if1 .left, ap letter (sym e) ∙ sym (c .before .is-letter .ensures) ∙ c .if3 .taken)
+
+returns-3 : tie.Need-returns-3
+returns-3 c =
+    let s = c .before .before .before .before .before .before .before .before .before in
+    let p = c .before .before .before .before .before .before .before .past-spaces in
+    behind-spaces (now (s .args .text)) (s .args .at) (p .result) (c .word-from .result) (p .ensures .0) (c .word-from .ensures)
+
+is-digit-requires : tie.Need-is-digit-requires
+is-digit-requires c κs = search needs
+
+number-from-requires : tie.Need-number-from-requires
+number-from-requires c κs =
+    let e = c .before .before .before .before .before .wide .ensures .0 in
+    (c .before .before .before .before .before .before .before .if1 .left, ap digit (sym e) ∙ sym (c .before .is-digit .ensures) ∙ c .if4 .taken)
+
+returns-4 : tie.Need-returns-4
+returns-4 c =
+    let s = c .before .before .before .before .before .before .before .before .before .before .before in
+    let p = c .before .before .before .before .before .before .before .before .before .past-spaces in
+    behind-spaces (now (s .args .text)) (s .args .at) (p .result) (c .number-from .result) (p .ensures .0) (c .number-from .ensures)
+
+sign-from-requires : tie.Need-sign-from-requires
+sign-from-requires c κs =
+    let e = c .before .before .before .before .before .wide .ensures .0 in
+    let h = c .before .before .before .before .before .before .before .if1 .left in (
+      h,
+      record {
+        no-letter = ap letter (sym e) ∙ sym (c .before .before .before .is-letter .ensures) ∙ c .before .before .if3 .left;
+        no-digit = ap digit (sym e) ∙ sym (c .before .is-digit .ensures) ∙ c .if4 .left;
+        no-space = c .before .before .before .before .before .before .before .before .past-spaces .ensures .1 h;
+        no-end = λ z. c .before .before .before .before .if2 .left (e ∙ z);
+      },
+    )
+
+returns-5 : tie.Need-returns-5
+returns-5 c =
+    let s = c .before .before .before .before .before .before .before .before .before .before .before in
+    let p = c .before .before .before .before .before .before .before .before .before .past-spaces in
+    behind-spaces (now (s .args .text)) (s .args .at) (p .result) (c .sign-from .result) (p .ensures .0) (c .sign-from .ensures)
 
 pub next-token-spec : {M : Type 1} → statement M
 next-token-spec =
     tie.close
     (tie.spec
-    Inv-loop
-    μ-loop
-    loop-holds
+    past-spaces-requires
+    returns
     shared-slice-read-wide
     wide-requires
-    ends-requires
-    returns
-    after-requires
-    add-i
-    loop-less
-    loop-again
-    returns-2)
+    returns-2
+    is-letter-requires
+    word-from-requires
+    returns-3
+    is-digit-requires
+    number-from-requires
+    returns-4
+    sign-from-requires
+    returns-5)
