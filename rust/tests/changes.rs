@@ -17,7 +17,7 @@ fn short_texts() {
     over_all("short texts", texts, |text| truncated_texts(text) + changed_texts(text));
 }
 
-/// Apart from the short ones, so that they can be left out: the two of 8,192 bytes take over a third of the time.
+/// Apart from the short ones, so that they can be left out: these nine take over a quarter of the time.
 #[test]
 fn long_texts() {
     let texts = texts_with(|length| length > SHORT_TEXT);
