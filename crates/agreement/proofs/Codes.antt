@@ -6,15 +6,13 @@ use mathlib.Core.Bool.{Bool, true, false, cond}
 use native.Mathlib.Omega.{arith}
 use native.Mathlib.Decide.{decLt}
 use native.Mathlib.Nat.{add-comm}
-use lib.ListN.{length, getD, set}
+use lib.ListN.{length, getD}
 use lib.Bits.{and-mask}
-use lib.Dec.{leb, ltb, eqb}
+use lib.Dec.{leb, eqb}
 use borrow.Author.Tests.{lt-leb, le-leb}
-use Rattle.word.specs.Number.{kept}
-use Rattle.bus.specs.declared.Fetched.{Fetched}
-use Rattle.bus.specs.Ports.{Left, readAt, writeAt}
+use Rattle.bus.specs.Ports.{Left}
 use Rattle.datapath.specs.declared.Half.{Half}
-use Rattle.datapath.specs.declared.Half.the-variants.{Nothing, Read, Write}
+use Rattle.datapath.specs.declared.Half.the-variants.{Nothing}
 use Rattle.datapath.specs.Result.{alu, both, jumps, keeps}
 use Rattle.datapath.specs.Transfer.{waits, completedRead, completedWrite, reads, writes, transferred}
 use Rattle.microword.specs.Microword.{fieldsOf}

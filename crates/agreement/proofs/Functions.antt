@@ -1,23 +1,20 @@
 -- Demand 3 for the functions themselves: their promises are `runs` of engine and of interpreter, and from a state that the engine
 -- admits these are the cycles and the instructions that `agrees` and `together` speak of.
-use Prim.Native.Nat.{ℕ, suc, _+_, _-_, _≤_, _<_}
-use mathlib.Core.Path.{_≡_, refl, ap, sym, _∙_}
+use Prim.Native.Nat.{ℕ, suc, _+_, _-_}
+use mathlib.Core.Path.{_≡_, ap, sym, _∙_}
 use mathlib.Core.List.{List}
-use mathlib.Core.Bool.{Bool, true, false, cond}
 use native.Mathlib.Omega.{arith}
-use lib.ListN.{length, getD}
-use lib.Dec.{ltb, eqb}
 use borrow.Author.Tests.{le-ltb, eq-eqb}
 use Rattle.engine.specs.Cycle.{State, register}
-use Rattle.engine.specs.Run.{Said, says, refusal, Ended, plus, begun, cycles, runs}
+use Rattle.engine.specs.Run.{says, refusal, Ended, plus, begun, cycles, runs}
 use Rattle.engine.proofs.Runs.{chained}
-use Rattle.instruction.specs.Instruction.{State as Cpu, acted}
+use Rattle.instruction.specs.Instruction.{acted}
 use Rattle.interpreter.specs.Run.{Ended as Interpreted, refusal as refuses, begun as starts, instructions, runs as interpreted}
 use Rattle.printed.specs.Printed.{printed}
 use Rattle.agreement.specs.Demand.{seen, Ready, Words, Fits, Start, ran, Agrees, Together, Answered}
 use Rattle.agreement.proofs.One.{agrees}
 use Rattle.agreement.proofs.Run.{together, halted}
-use Rattle.agreement.proofs.Admitted.{Admitted, admitted, unrefused, cycles-admitted}
+use Rattle.engine.proofs.Admitted.{Admitted, admitted, unrefused, cycles-admitted}
 
 -- An admitted state has all that the theorems ask.
 start-ready : {input : List ℕ} {s : State} → Start input s → Ready s

@@ -2,6 +2,5 @@ pub mod Walk
 pub mod Codes
 pub mod One
 pub mod Run
-pub mod Admitted
 pub mod Functions
 pub mod Figures

@@ -1,19 +1,18 @@
 -- A walk: cycles whose tests are answered from a list, so that every line is known and everything computes; and what a walk says of
 -- the cycles: where the tests really met are that list and no line was 0, the real run went that way.
-use Prim.Native.Nat.{ℕ, zero, suc, _+_, _-_, _≤_, _<_}
-use mathlib.Core.Path.{_≡_, refl, ap, sym, _∙_}
+use Prim.Native.Nat.{ℕ, zero, suc, _-_, _≤_, _<_}
+use mathlib.Core.Path.{_≡_, refl, ap, _∙_}
 use mathlib.Core.List.{List, [], _∷_}
-use mathlib.Core.Bool.{Bool, true, false, cond, not, _||_, true≢false}
+use mathlib.Core.Bool.{Bool, true, false, cond, not, _||_}
 use native.Mathlib.Omega.{arith}
 use native.Mathlib.Numerals.{one-add}
-use lib.ListN.{getD}
 use lib.Dec.{eqb}
 use Rattle.datapath.specs.Result.{negative, isZero, jumps}
 use Rattle.datapath.proofs.Laws.{jumps-by}
 use Rattle.microword.specs.declared.Fields.{Fields}
 use Rattle.microword.specs.Microword.{fieldsOf}
 use Rattle.engine.specs.Cycle.{State, Cycled, controlWord, result, stored, transfer, target, nextLine, arrived, driven, settled, cycle}
-use Rattle.engine.specs.Run.{Ended, says, plus, onwards, cycles}
+use Rattle.engine.specs.Run.{plus, onwards, cycles}
 use Rattle.agreement.specs.Demand.{ran, strays}
 
 -- Whether a word tests its result, and what the test says.

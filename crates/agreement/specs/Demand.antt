@@ -1,14 +1,14 @@
 -- Demand 3, sentence by sentence, over the definitions of engine and interpreter.
-use Prim.Native.Nat.{ℕ, _-_, _≤_, _<_}
+use Prim.Native.Nat.{ℕ, _-_, _<_}
 use mathlib.Core.Path.{_≡_}
 use mathlib.Core.Bool.{Bool, true, false, not, _&&_}
 use mathlib.Core.List.{List}
 use lib.ListN.{length, getD}
 use lib.Dec.{eqb}
 use Rattle.datapath.specs.declared.Half.the-variants.{Nothing}
-use Rattle.engine.specs.Cycle.{State, Cycled, register, cycle}
+use Rattle.engine.specs.Cycle.{State, register, cycle}
 use Rattle.engine.specs.Run.{Ended, says, refusal, cycles, runs}
-use Rattle.instruction.specs.Instruction.{State as Cpu, Act, instruct, acted}
+use Rattle.instruction.specs.Instruction.{State as Cpu, instruct, acted}
 use Rattle.interpreter.specs.Run.{Ended as Interpreted, runs as interpreted}
 use Rattle.printed.specs.Printed.{printed}
 

@@ -7,10 +7,10 @@ use Rattle.microtext.specs.Line.{line}
 use Rattle.microtext.specs.declared.Meaning.{Meaning}
 use Rattle.microtext.specs.declared.Meaning.the-variants.{Word, Refused}
 use Rattle.datapath.specs.declared.Half.the-variants.{Nothing}
-use Rattle.engine.specs.Cycle.{State, register}
+use Rattle.engine.specs.Cycle.{register}
 use Rattle.engine.specs.Run.{Ended, cycles}
 use Rattle.printed.specs.Printed.{printed}
-use Rattle.instruction.specs.Instruction.{State as Cpu, Act, instruct}
+use Rattle.instruction.specs.Instruction.{State as Cpu, instruct}
 
 pub record Figure : Type 0 where
   pub given : List ℕ

@@ -17,7 +17,6 @@ use Rattle.microtext.specs.declared.Meaning.{Meaning}
 use Rattle.microtext.specs.declared.Meaning.the-variants.{Word, Refused as RefusedLine}
 use Rattle.microtext.specs.declared.Reading.the-variants.{Line, Faulty}
 use Rattle.assembler.specs.Assembled.{prefixed, lines, Words, laid, faulty, onward, filled, zeroWords, outcome, assembled}
-use Rattle.assembler.specs.declared.Answer.the-variants.{WrongStore, LongText}
 
 -- How many of n bytes a first line of l takes, with its byte 10.
 taking : ℕ → ℕ → ℕ

@@ -6,7 +6,7 @@ use mathlib.Core.List.{List, [], _∷_}
 use native.Mathlib.Omega.{arith}
 use borrow.Author.Tests.{lt-ltb, ltb-true, leb-false, eqb-true, eq-eqb}
 use lib.Dec.{leb, ltb, eqb}
-use Rattle.microword.specs.Microword.{fieldsOf, wordOf, idle, binary, unusedClear, isNormal}
+use Rattle.microword.specs.Microword.{wordOf, idle, binary, unusedClear, isNormal}
 use Rattle.microword.proofs.Laws.{Within, fields-back, word-below}
 use Rattle.microword.specs.declared.Fields.{Fields}
 use Rattle.microtext.specs.Text.{_is_}
@@ -18,7 +18,7 @@ use Rattle.microtext.specs.declared.Part.the-variants.{Operation, Transfer, Jum
 use Rattle.microtext.specs.declared.Given.{Given}
 use Rattle.microtext.specs.declared.Fault.the-variants.{ExtraLine, WrongNumber, Ungrammatical, FarTarget, WrongParts}
 use Rattle.microtext.specs.declared.Meaning.the-variants.{Word, Refused}
-use Rattle.microtext.proofs.Tests.{both}
+use Rattle.word.proofs.Tests.{both}
 
 -- Fields without use are 0.
 pub record Clear (m : Fields) : Type 0 where

@@ -7,12 +7,12 @@ use mathlib.Core.List.{List, [], _∷_, _++_, append-assoc, append-nil}
 use native.Mathlib.Nat.{sub-zero, zero-sub, suc-sub-suc}
 use native.Mathlib.Numerals.{add-one}
 use native.Mathlib.Omega.{arith}
-use lib.ListN.{length, getD, set, take, drop, length-set, length-append}
+use lib.ListN.{length, getD, set, take, length-set, length-append}
 use lib.Seq.{take-suc-set, take-nil, drop-set-lt, drop-drop, getD-set-other}
 use lib.Dec.{ltb, eqb}
-use borrow.Author.Tests.{lt-ltb, le-ltb, ltb-true, ltb-false, ne-eqb}
-use Rattle.bus.specs.Ports.{Goes, Memory, Log, Nowhere, Left, Logged, goes, sent, logged, nextInput, readAt, writeAt}
-use Rattle.bus.specs.Log.{Sent, after, toLog, entries, room, Took}
+use borrow.Author.Tests.{ltb-true, ltb-false, ne-eqb}
+use Rattle.bus.specs.Ports.{Memory, Log, Nowhere, Left, Logged, goes, sent, logged, readAt, writeAt}
+use Rattle.bus.specs.Log.{Sent, after, toLog, room, Took}
 use Rattle.bus.specs.declared.Fetched.{Fetched}
 use Rattle.bus.specs.declared.Written.{Written}
 

@@ -1,8 +1,8 @@
 -- The definitions held against 01 by computing: each F at its edges, N and Z before the cut, and SQ.
 use Prim.Native.Nat.{ℕ}
 use mathlib.Core.Path.{_≡_, refl}
-use mathlib.Core.Bool.{Bool, true, false}
-use mathlib.Core.List.{List, [], _∷_, map}
+use mathlib.Core.Bool.{true, false}
+use mathlib.Core.List.{[], _∷_, map}
 use Rattle.datapath.specs.Result.{alu, both, negative, isZero, jumps, keeps}
 
 record Case : Type 0 where

@@ -6,7 +6,6 @@ use mathlib.Core.List.{List}
 use native.Mathlib.Omega.{arith}
 use lib.ListN.{length}
 use lib.Dec.{eqb}
-use Rattle.bus.specs.Ports.{Left, writeAt}
 use Rattle.bus.specs.Log.{after, toLog}
 use Rattle.bus.proofs.Laws.{leaves, has-room}
 use Rattle.datapath.specs.Result.{jumps}

@@ -1,32 +1,27 @@
 -- Laws of a cycle and of a run: what a refused cycle leaves, how a run goes on, stops and ends, and no second answer.
-use Prim.Native.Nat.{ℕ, zero, suc, _+_, _-_, _<_, _≤_}
+use Prim.Native.Nat.{ℕ, suc, _+_, _-_, _<_, _≤_}
 use mathlib.Core.Path.{_≡_, refl, sym, _∙_, ap, subst}
-use mathlib.Core.Bool.{Bool, true, false, cond, not, _&&_, _||_, true≢false}
+use mathlib.Core.Bool.{Bool, true, false, cond, not, _&&_, true≢false}
 use mathlib.Core.List.{List}
-use mathlib.Core.Logic.{_⊎_, inl, inr, ⊎-elim}
 use native.Mathlib.Nat.{add-zero, zero-add, add-assoc}
 use native.Mathlib.Omega.{arith}
-use lib.ListN.{length, getD, set}
+use lib.ListN.{getD, set}
 use lib.Seq.{set-set, set-getD}
-use lib.Dec.{ltb, eqb}
-use borrow.Author.Tests.{eqb-true, ltb-false}
+use lib.Dec.{eqb}
 use Rattle.datapath.specs.declared.Moved.{Moved}
 use Rattle.datapath.specs.declared.Half.{Half}
 use Rattle.datapath.specs.declared.Half.the-variants.{Nothing}
-use Rattle.datapath.specs.Result.{keeps}
-use Rattle.datapath.specs.Transfer.{Found, Transfer, moved, waits, transferred, leftIn}
+use Rattle.datapath.specs.Transfer.{Transfer, moved, waits, transferred, leftIn}
 use Rattle.datapath.proofs.Laws.{transfer-refused, rdm-stays}
 use Rattle.bus.specs.Ports.{Left}
 use Rattle.microword.specs.declared.Fields.{Fields}
-use Rattle.microword.specs.Microword.{fieldsOf, firstBad}
+use Rattle.microword.specs.Microword.{fieldsOf}
 use Rattle.microword.proofs.Laws.{fields-within}
-use Rattle.word.specs.Number.{sum}
 use Rattle.word.specs.declared.Line.{Line}
 use Rattle.word.proofs.Laws.{kept-below}
-use Rattle.engine.specs.Cycle.{State, Cycled, register, controlWord, result, stored, transfer, target, nextLine, arrived, driven, settled, cycle}
-use Rattle.engine.specs.Run.{Ended, Said, says, saying, refusal, plus, onwards, cycles, stateOf, endedBy}
+use Rattle.engine.specs.Cycle.{State, Cycled, controlWord, result, stored, transfer, target, nextLine, arrived, driven, settled, cycle}
+use Rattle.engine.specs.Run.{Ended, says, plus, onwards, cycles}
 use Rattle.engine.specs.Standing.{standing, stepped}
-use Rattle.engine.specs.declared.Ran.{Ran}
 
 -- Putting back what stood in S undoes the store.
 restored : (m : Fields) (value : ℕ) (registers : List ℕ) (hs : Bool) → eqb (m .hs) 1 ≡ hs
@@ -93,16 +88,17 @@ rests {m = m} {registers₁ = registers₁} half place count input memory log r 
     both false true e = absurd (true≢false (sym e))
     both false false e = (refl, refl)
 
--- A cycle that starts at one of the 64 lines ends at one.
-settled-within : (s : State) (c : Cycled) → s .line < 64 → c .next .line < 64 → settled s c .next .line < 64
+-- What holds before a cycle and after what its control word drives holds after the cycle.
+pub settled-keeps : (P : State → Type 0) (s : State) (c : Cycled) → P s → P (c .next) → P (settled s c .next)
 unfolding settled
-settled-within s c h g = by (c .full) refl
+settled-keeps P s c h g = by (c .full)
   where
-    by : (full : Bool) → c .full ≡ full → cond full (record { next = s; full = true }) c .next .line < 64
-    by true e = h
-    by false e = g
+    by : (full : Bool) → P (cond full (record { next = s; full = true }) c .next)
+    by true = h
+    by false = g
 
-target-within : (m : Fields) (jump : Bool) (line : ℕ) → m .end < 64 → target m jump line < 64
+-- A cycle that starts at one of the 64 lines ends at one.
+pub target-within : (m : Fields) (jump : Bool) (line : ℕ) → m .end < 64 → target m jump line < 64
 unfolding target
 target-within m true line h = h
 target-within m false line h = kept-below 6 (line + 1)
@@ -112,27 +108,7 @@ unfolding cycle driven nextLine
 line-within store input s h e =
     let m : Fields = fieldsOf (controlWord store (s .line)) in
     subst (λ (c : Cycled). c .next .line < 64) e
-    (settled-within s (driven m input s) h (target-within m _ (s .line) (fields-within (controlWord store (s .line)) .end)))
-
--- A run that is not refused has a store of 64 words and starts at one of its lines.
-pub runs-within : (store input : List ℕ) (s : State) → refusal store input s .number ≡ 0 → (length store ≡ 64) × (s .line < 64)
-unfolding refusal
-runs-within store input s e =
-    by
-    (not (eqb (length (s .memory)) 4096)) (eqb (length store) 64) refl (ltb (length input) (s .place) || ltb (length (s .log)) (s .count))
-    (ltb 4095 (register 0 s)) (ltb 4095 (register 2 s)) (ltb 4095 (register 6 s)) (ltb 63 (s .line)) refl e
-  where
-    by : (memory words : Bool) → eqb (length store) 64 ≡ words → (places a b c line : Bool) → ltb 63 (s .line) ≡ line
-        → cond (memory || not words) (says 1) (cond places (says 2) (cond (a || b || c || line) (says 3) (cond (ltb (firstBad store) 64) (record { number = 4; line = firstBad store }) (says 0)))) .number ≡ 0
-        → (length store ≡ 64) × (s .line < 64)
-    by true words w places a b c line l e = absurd (omega arith)
-    by false false w places a b c line l e = absurd (omega arith)
-    by false true w true a b c line l e = absurd (omega arith)
-    by false true w false true b c line l e = absurd (omega arith)
-    by false true w false false true c line l e = absurd (omega arith)
-    by false true w false false false true line l e = absurd (omega arith)
-    by false true w false false false false true l e = absurd (omega arith)
-    by false true w false false false false false l e = (eqb-true _ _ w, omega (arith, ltb-false 63 (s .line) l))
+    (settled-keeps (λ t. t .line < 64) s (driven m input s) h (target-within m _ (s .line) (fields-within (controlWord store (s .line)) .end)))
 
 -- Nothing more.
 pub plus-none : (e : Ended) → plus 0 e ≡ e

@@ -1,17 +1,16 @@
 -- A word and its normal form give the same cycle from every state (01, Micro text and images): what a field without use holds is never asked.
 use Prim.Native.Nat.{ℕ, _<_}
-use mathlib.Core.Path.{_≡_, refl, sym, _∙_, ap}
+use mathlib.Core.Path.{_≡_, refl, sym, _∙_}
 use mathlib.Core.Bool.{Bool, true, false, cond, not, _&&_, _||_, true≢false}
 use mathlib.Core.List.{List}
-use native.Mathlib.Omega.{arith}
 use lib.ListN.{getD, set}
 use lib.Dec.{eqb}
-use borrow.Author.Tests.{eqb-true, eqb-false, eq-eqb, ne-eqb}
+use borrow.Author.Tests.{eqb-true}
 use Rattle.datapath.specs.Result.{alu, negative, isZero, jumps, keeps}
 use Rattle.microword.specs.declared.Fields.{Fields}
 use Rattle.microword.specs.Microword.{fieldsOf, idle, binary, normalFields, normalForm}
 use Rattle.microword.proofs.Laws.{fields-within, normal-fields}
-use Rattle.engine.specs.Cycle.{State, Cycled, result, stored, transfer, target, nextLine, arrived, driven}
+use Rattle.engine.specs.Cycle.{State, result, stored, transfer, target, nextLine, driven}
 
 -- F other than 3, 4 and 5 does not ask for B.
 unary : (f a b b′ : ℕ) → (eqb f 3 || eqb f 4 || eqb f 5) ≡ false → alu f a b ≡ alu f a b′

@@ -1,22 +1,22 @@
 -- Laws of runs: a run in two parts, what a run does to memory and log, and no second answer.
-use Prim.Native.Nat.{ℕ, zero, suc, _+_, _-_, _≤_, _<_}
+use Prim.Native.Nat.{ℕ, zero, suc, _+_, _-_, _≤_}
 use mathlib.Core.Path.{_≡_, refl, sym, _∙_, ap}
 use mathlib.Core.Bool.{Bool, true, false, cond, true≢false}
-use mathlib.Core.List.{List, [], _∷_, _++_}
+use mathlib.Core.List.{List, [], _++_}
 use native.Mathlib.Nat.{zero-add, suc-add}
 use native.Mathlib.Omega.{arith}
 use lib.ListN.{length, getD, take, drop, length-append}
 use lib.Seq.{take-all}
 use lib.Dec.{eqb}
 use Rattle.bus.specs.Ports.{Left}
-use Rattle.bus.specs.Log.{Sent, after, toLog, entries, room, Took}
+use Rattle.bus.specs.Log.{Sent, after, toLog, room, Took}
 use Rattle.bus.proofs.Laws.{kept, after-append, after-ports, to-log-append}
-use Rattle.datapath.specs.Transfer.{Transfer, transferred, sends, foundIn, leftIn}
+use Rattle.datapath.specs.Transfer.{sends}
 use Rattle.datapath.proofs.Laws.{transfer-leaves, sends-fit}
 use Rattle.microword.specs.declared.Fields.{Fields}
 use Rattle.microword.specs.Microword.{fieldsOf}
-use Rattle.engine.specs.Cycle.{State, Cycled, controlWord, result, stored, found, transfer, arrived, driven, settled, cycle, written}
-use Rattle.engine.specs.Run.{Said, says, saying, Ended, plus, onwards, cycles, writes, stateOf, endedBy}
+use Rattle.engine.specs.Cycle.{State, Cycled, controlWord, result, stored, found, transfer, driven, settled, cycle, written}
+use Rattle.engine.specs.Run.{Said, says, saying, Ended, plus, onwards, cycles, writes, endedBy}
 use Rattle.engine.specs.declared.Answer.{Answer}
 use Rattle.engine.specs.declared.Answer.the-variants.{Done, Sizes, Places, Ranges, BadWord, LogFull}
 use Rattle.engine.specs.declared.Machine.{Machine}

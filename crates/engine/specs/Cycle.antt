@@ -1,8 +1,8 @@
 -- One cycle of the engine, for any control store (01, One cycle, in order).
 use Prim.Native.Nat.{ℕ}
-use mathlib.Core.Bool.{Bool, true, false, cond}
+use mathlib.Core.Bool.{Bool, true, cond}
 use mathlib.Core.List.{List}
-use lib.ListN.{length, getD, set}
+use lib.ListN.{getD, set}
 use lib.Dec.{eqb}
 use Rattle.word.specs.Number.{sum}
 use Rattle.bus.specs.Log.{Sent}

@@ -6,7 +6,7 @@ use lib.ListN.{length}
 use lib.Dec.{ltb, eqb}
 use Rattle.microword.specs.Microword.{firstBad}
 use Rattle.bus.specs.Log.{Sent}
-use Rattle.engine.specs.Cycle.{State, Cycled, register, cycle, written}
+use Rattle.engine.specs.Cycle.{State, register, cycle, written}
 use Rattle.engine.specs.declared.Answer.{Answer}
 use Rattle.engine.specs.declared.Answer.the-variants.{Done, Sizes, Places, Ranges, BadWord, LogFull}
 use Rattle.engine.specs.declared.Machine.{Machine}

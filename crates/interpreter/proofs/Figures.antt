@@ -1,12 +1,11 @@
 -- The figures of 01 that speak of instructions, held against the definitions by computing.
 use Prim.Native.Nat.{ℕ, _+_, _*_}
 use mathlib.Core.Path.{_≡_, refl}
-use mathlib.Core.Bool.{Bool, true, false}
 use mathlib.Core.List.{List, [], _∷_, map}
-use lib.ListN.{length, getD, set, replicate}
+use lib.ListN.{getD, set, replicate}
 use Rattle.bus.specs.Ports.{nextInput, readAt, goes, sent, logged, writeAt}
-use Rattle.instruction.specs.Instruction.{State, Act, sets, writes, gains, jumps, action, fetched, past, acted, instruct}
-use Rattle.interpreter.specs.Run.{Ended, plus, onwards, instructions, refusal, begun, runs}
+use Rattle.instruction.specs.Instruction.{State, sets, writes, gains, jumps, action, fetched, past, acted, instruct}
+use Rattle.interpreter.specs.Run.{plus, onwards, instructions, refusal, begun, runs}
 
 -- A memory of zero words but for one instruction.
 abbrev holding : ℕ → ℕ → ℕ → List ℕ

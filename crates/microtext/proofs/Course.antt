@@ -14,7 +14,7 @@ use Rattle.microtext.specs.declared.Part.{Part}
 use Rattle.microtext.specs.declared.Part.the-variants.{Operation, Transfer, Jump, Foreign}
 use Rattle.microtext.specs.declared.Place.{Place}
 use Rattle.microtext.specs.declared.Place.the-variants.{Start, Named, Assigned, Opened, Shift, First, Sign, Closing, If, Tested, Then, Goto, Whole, Wrong}
-use Rattle.microtext.proofs.Tests.{cond-same}
+use Rattle.word.proofs.Tests.{cond-same}
 use Rattle.microtext.proofs.Packed.{Bytes, known, same-equal}
 use Rattle.microtext.proofs.Words.{register-of, destination-of, number-of}
 use Rattle.microtext.proofs.Formula.{name, Name, plain-name, named, formula-nothing, formula-nowhere, only, closing, finishing, value, lift-foreign, lift-whole, Signed, plus, minus, and, Shifted, left, right, sign, shift, first-foreign, first-alone, first-closed, sign-foreign, sign-alone, sign-register, plus-one, minus-one, shift-alone, shift-foreign, shift-register, unclosed}

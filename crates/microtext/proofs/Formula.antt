@@ -12,7 +12,7 @@ use Rattle.microtext.specs.Tokens.{Token}
 use Rattle.microtext.specs.Grammar.{registers, place, register, operation, formula, last, front, bare}
 use Rattle.microtext.specs.declared.Part.{Part}
 use Rattle.microtext.specs.declared.Part.the-variants.{Operation, Foreign}
-use Rattle.microtext.proofs.Tests.{both, cond-same, all, all-at}
+use Rattle.word.proofs.Tests.{both, cond-same, all, all-at}
 use Rattle.microtext.proofs.Words.{place-holds}
 
 -- The register a, written out.

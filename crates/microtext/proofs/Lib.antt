@@ -1,4 +1,3 @@
-pub mod Tests
 pub mod Packed
 pub mod Scan
 pub mod Reached

@@ -10,7 +10,7 @@ use lib.Dec.{ltb, eqb}
 use lib.ListN.{getD}
 use Rattle.microtext.specs.Text.{same}
 use Rattle.microtext.specs.Progress.{numeral, grown, packedAfter, packed}
-use Rattle.microtext.proofs.Tests.{both}
+use Rattle.word.proofs.Tests.{both}
 
 -- Texts that are the same are equal.
 pub same-equal : (u v : List ℕ) → same u v ≡ true → u ≡ v

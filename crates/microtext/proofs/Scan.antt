@@ -16,7 +16,7 @@ use Rattle.microtext.specs.Progress.{numeral, spelt, grown, packed, Spac
 use Rattle.microtext.specs.Reading.{lineAt, endAt}
 use Rattle.microtext.specs.declared.Scanned.{Scanned}
 use Rattle.microtext.proofs.Packed.{Bytes, bytes-append, packed-more, short, known}
-use Rattle.microtext.proofs.Tests.{both}
+use Rattle.word.proofs.Tests.{both}
 
 pub every-more : (p : ℕ → Bool) (t : List ℕ) (c : ℕ) → every p (t ++ c ∷ []) ≡ (every p t && p c)
 unfolding every

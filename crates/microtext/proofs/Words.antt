@@ -11,7 +11,7 @@ use Rattle.microtext.specs.Text.{bytes, same}
 use Rattle.microtext.specs.Tokens.{Token, digit}
 use Rattle.microtext.specs.Grammar.{registers, place, register, destination, number}
 use Rattle.microtext.specs.Progress.{numeral, grown, packedAfter, packed, position, registerOf, destinationOf, numberOf}
-use Rattle.microtext.proofs.Tests.{both}
+use Rattle.word.proofs.Tests.{both}
 use Rattle.microtext.proofs.Packed.{Bytes, short, known, same-equal}
 
 abbrev allShort : List Token → Bool

@@ -46,7 +46,7 @@ packed t = packedAfter 1 t
 abbrev pub codesAt : List ℕ → ℕ → List ℕ
 codesAt text at = map packed (tokens (lineAt text at))
 
--- Only spaces stand from `at` up to i: what follows is the same from both.
+-- What follows is the same from `at` as from i, as where only spaces stand between the two.
 pub record Spaces (text : List ℕ) (at i : ℕ) : Type 0 where
   pub from : at ≤ i
   pub codes : codesAt text i ≡ codesAt text at

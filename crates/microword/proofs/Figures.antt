@@ -1,10 +1,10 @@
 -- The words of Figure 5.9 and of 01's figures, held against the definitions by computing, placed and taken.
 use Prim.Native.Nat.{ℕ}
 use mathlib.Core.Path.{_≡_, refl}
-use mathlib.Core.Bool.{Bool, true, false}
+use mathlib.Core.Bool.{true, false}
 use mathlib.Core.List.{List, [], _∷_, map}
 use Rattle.word.specs.Number.{joined}
-use Rattle.microword.specs.Microword.{fieldsOf, wordOf, badWord, idle, binary, normalFields, normalForm, unusedClear, isNormal}
+use Rattle.microword.specs.Microword.{fieldsOf, wordOf, badWord, idle, binary, normalFields, normalForm}
 use Rattle.microword.specs.declared.Fields.{Fields}
 
 abbrev of : ℕ → ℕ → ℕ → ℕ → ℕ → ℕ → ℕ → ℕ → ℕ → Fields

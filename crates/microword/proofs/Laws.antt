@@ -1,19 +1,19 @@
 -- Laws of the control word: fields and word turn back into each other, and the normal form is what its name says.
 -- The turning back is the law of `word` over any layout, at this one; the normal form goes by what is without use.
-use Prim.Native.Nat.{ℕ, suc, _+_, _^_, _/_, _≤_, _<_}
-use mathlib.Core.Path.{_≡_, refl, sym, _∙_, ap}
+use Prim.Native.Nat.{ℕ, suc, _+_, _/_, _≤_, _<_}
+use mathlib.Core.Path.{_≡_, refl, sym, _∙_}
 use mathlib.Core.Bool.{Bool, true, false, cond, not, _&&_, _||_}
-use mathlib.Core.List.{List, [], _∷_, _++_}
+use mathlib.Core.List.{List, [], _∷_}
 use native.Mathlib.Nat.{div-eq-of-lt, add-zero}
 use native.Mathlib.Numerals.{add-one}
 use native.Mathlib.Omega.{arith}
 use lib.ListN.{length, getD, drop, drop-of-length-le}
 use lib.Seq.{drop-cons}
-use lib.Dec.{leb, ltb, eqb}
+use lib.Dec.{ltb, eqb}
 use borrow.Author.Tests.{lt-ltb, ltb-true, eqb-true}
-use Rattle.word.specs.Number.{Field, field, kept, joined, total}
+use Rattle.word.specs.Number.{field, kept, joined, total}
 use Rattle.word.proofs.Laws.{kept-below, kept-whole, joined-below, joined-at, empty, joined-taken, widths, taken}
-use Rattle.microword.specs.Microword.{fieldsOf, wide, layout, wordOf, badWord, firstBad, idle, binary, normalFields, normalForm, clear, unusedClear, isNormal}
+use Rattle.microword.specs.Microword.{fieldsOf, layout, wordOf, badWord, firstBad, idle, binary, normalFields, normalForm, clear, unusedClear, isNormal}
 use Rattle.microword.specs.declared.Fields.{Fields}
 
 -- Each field is below its bound.

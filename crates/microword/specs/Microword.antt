@@ -1,6 +1,6 @@
 -- The control word of 23 bits (01, Registers and microwords; Micro text and images): its fields, bad words, the normal form.
 use Prim.Native.Nat.{ℕ, suc}
-use mathlib.Core.Bool.{Bool, true, false, cond, not, _&&_, _||_}
+use mathlib.Core.Bool.{Bool, cond, not, _&&_, _||_}
 use mathlib.Core.List.{List, [], _∷_}
 use lib.Dec.{leb, ltb, eqb}
 use Rattle.word.specs.Number.{Field, field, joined}

@@ -2,11 +2,11 @@
 -- the other nine are zero words.
 use Prim.Native.Nat.{ℕ, suc}
 use mathlib.Core.Path.{_≡_, refl}
-use mathlib.Core.List.{List, [], _∷_, _++_, map}
+use mathlib.Core.List.{List, [], _∷_, map}
 use lib.ListN.{take, drop, replicate}
 use Rattle.word.specs.Number.{joined}
 use Rattle.microword.specs.Microword.{wordOf}
-use Rattle.microtext.specs.Text.{bytes, same}
+use Rattle.microtext.specs.Text.{same}
 use Rattle.microtext.specs.Tokens.{every, oneToken, begun, under, ended, going, tokensAfter}
 use Rattle.microtext.specs.Grammar.{place, register, destination, number, operation, formula, last, front, bare, jump, test, part}
 use Rattle.microtext.specs.Line.{cut, divided, lastPart, parts, someForeign, add, given, clash, settled, meaning, behindNumber, numbered, line}

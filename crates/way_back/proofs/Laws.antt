@@ -1,20 +1,19 @@
 -- The way back for the two functions: the lister's answer 0 puts the listing at the room's start, and `listing-back`
 -- reads it; the normal forms have the same lines, since a line never shows a field without use.
-use Prim.Native.Nat.{ℕ, suc, _≤_, _<_}
-use mathlib.Core.Path.{_≡_, refl, sym, _∙_, ap}
+use Prim.Native.Nat.{ℕ, suc, _≤_}
+use mathlib.Core.Path.{_≡_, refl, sym, _∙_}
 use mathlib.Core.Bool.{Bool, true, false, cond, not, _&&_, _||_, true≢false}
-use mathlib.Core.List.{List, [], _∷_, _++_, map}
+use mathlib.Core.List.{List, [], _∷_, map}
 use native.Mathlib.Omega.{arith}
-use lib.ListN.{length, take, drop, length-map}
+use lib.ListN.{length, drop, length-map}
 use lib.Seq.{take-append-seam}
 use lib.Dec.{leb, ltb, eqb}
 use borrow.Author.Tests.{le-ltb, lt-leb, eq-eqb, ltb-false, eqb-true}
 use Rattle.microword.specs.Microword.{fieldsOf, wordOf, badWord, firstBad, normalFields, normalForm}
 use Rattle.microword.proofs.Laws.{fields-within, word-below, normal-fields, normal-again}
 use Rattle.microtext.specs.Listing.{line, lines, upTo, shown, listing}
-use Rattle.lister.specs.Answers.{Outcome, refused, done, listed}
+use Rattle.lister.specs.Answers.{refused, done, listed}
 use Rattle.lister.proofs.Laws.{line-normal}
-use Rattle.assembler.specs.Assembled.{assembled}
 use Rattle.way_back.proofs.Reading.{AllGood, listing-back}
 use Rattle.way_back.specs.Back.{text, Back}
 

@@ -11,7 +11,7 @@ use Rattle.microtext.specs.Tokens.{Token, letter, digit, every, oneToken, begun
 use Rattle.microtext.specs.Grammar.{part}
 use Rattle.microtext.specs.Line.{cut, divided, lastPart, parts}
 use Rattle.microtext.specs.declared.Part.{Part}
-use Rattle.microtext.proofs.Tests.{both}
+use Rattle.word.proofs.Tests.{both}
 use Rattle.microtext.proofs.Scan.{every-more}
 use Rattle.microtext.proofs.Whole.{divided-some}
 use Rattle.way_back.proofs.Printed.{undivided}

@@ -15,7 +15,7 @@ use Rattle.microtext.specs.Listing as listing
 use Rattle.microtext.specs.Listing.{decimal, formulas, jumps}
 use Rattle.microtext.specs.declared.Part.{Part}
 use Rattle.microtext.specs.declared.Part.the-variants.{Operation, Transfer, Jump, Foreign}
-use Rattle.microtext.proofs.Tests.{both, all, all-at}
+use Rattle.word.proofs.Tests.{both, all, all-at}
 use Rattle.microtext.proofs.Packed.{same-equal}
 
 -- No token is a semicolon; no byte is 10.

@@ -14,7 +14,7 @@ use Rattle.microword.proofs.Laws.{fields-within}
 use Rattle.microtext.specs.Line.{line}
 use Rattle.microtext.specs.Listing as listing
 use Rattle.microtext.specs.Listing.{decimal, upTo, shown}
-use Rattle.microtext.proofs.Tests.{both}
+use Rattle.word.proofs.Tests.{both}
 use Rattle.assembler.specs.Assembled.{prefixed, lines, laid, onward, filled, zeroWords, assembled}
 use Rattle.assembler.proofs.Filled.{by-lines}
 use Rattle.way_back.proofs.Printed.{unbroken, number-back}

@@ -1,5 +1,5 @@
 -- A listed line reads back as the normal form of its word.
-use Prim.Native.Nat.{ℕ, zero, suc, _/_, _^_, _≤_, _<_}
+use Prim.Native.Nat.{ℕ, zero, suc, _≤_, _<_}
 use mathlib.Core.Path.{_≡_, refl, sym, ap, ap₂, _∙_}
 use mathlib.Core.Bool.{Bool, true, false, cond, not, _&&_, _||_, true≢false, false≢true}
 use mathlib.Core.List.{List, [], _∷_, _++_, map, append-assoc}
@@ -7,7 +7,6 @@ use native.Mathlib.Omega.{arith}
 use borrow.Author.Tests.{lt-ltb, lt-leb, eqb-true, eqb-false, eq-eqb}
 use lib.Dec.{leb, ltb, eqb}
 use lib.ListN.{length}
-use Rattle.word.proofs.Laws.{kept-below}
 use Rattle.microword.specs.Microword.{fieldsOf, wordOf, badWord, idle, binary, normalFields, normalForm}
 use Rattle.microword.specs.declared.Fields.{Fields}
 use Rattle.microword.proofs.Laws.{Within, fields-within}
@@ -68,9 +67,6 @@ moves m = eqb (m .rd) 1 || eqb (m .wr) 1
 
 abbrev jumps : Fields → Bool
 jumps m = not (eqb (m .sq) 0)
-
-abbrev transfer : Fields → Part
-transfer m = cond (eqb (m .rd) 1) (Transfer 1 0) (Transfer 0 1)
 
 turned : (b : Bool) (x : ℕ) → cond (not b) x 0 ≡ cond b 0 x
 turned true x = refl

@@ -4,7 +4,7 @@ use mathlib.Core.Path.{_≡_}
 use mathlib.Core.List.{List, map}
 use lib.ListN.{length, take}
 use Rattle.microword.specs.Microword.{normalForm}
-use Rattle.lister.specs.Answers.{Outcome, listed}
+use Rattle.lister.specs.Answers.{listed}
 use Rattle.assembler.specs.Assembled.{assembled}
 
 -- A store that the lister lists: its text is what stands at the room's start.

@@ -1,7 +1,7 @@
 -- Laws of what few bits keep, of fields, of sums and of bytes, each once, for every place and width.
 -- They rest on the library's laws of 2 ^ k and of masks; nothing is assumed.
 use Prim.Native.Nat.{ℕ, zero, suc, _+_, _-_, _*_, _/_, _%_, _^_, _≤_, _<_}
-use mathlib.Core.Path.{_≡_, refl, sym, _∙_, ap}
+use mathlib.Core.Path.{_≡_, sym, _∙_, ap}
 use mathlib.Core.List.{List, [], _∷_}
 use native.Mathlib.Nat.{one-mul, mod-eq-of-lt, mod-lt, mod-mod, mod-add-mod, add-mod-right, add-mul-mod-self-right, mul-mod-left, div-one, add-zero, zero-add, add-comm, add-assoc, mul-assoc}
 use native.Mathlib.Omega.{arith}

@@ -1,5 +1,5 @@
 -- `next_line` goes to END where SQ says so, else to the line after this one.
-use mathlib.Core.Path.{sym, ap}
+use mathlib.Core.Path.{ap}
 use borrow.Author.Needs.{needs}
 use Rattle.engine.specs.Cycle.{nextLine, target}
 use Rattle.engine.proofs.next_line.Statement.{statement}

@@ -3,15 +3,14 @@ use denote.Enum.Declared.{tagOf}
 use mathlib.Core.Path.{_≡_, refl, sym, _∙_, ap}
 use mathlib.Core.List.{List, [], _∷_}
 use types.Run.{OneOf, miss}
-use Prim.Native.Nat.{ℕ, _<_}
-use lib.ListN.{length}
+use Prim.Native.Nat.{ℕ}
 use borrow.Author.Needs.{needs}
 use Rattle.engine.specs.declared.Answer.{Answer}
 use Rattle.engine.specs.Cycle.{State}
 use Rattle.engine.specs.declared.Answer.the-variants.{Done, Sizes, Places, Ranges, BadWord, LogFull}
 use Rattle.engine.proofs.Answer as AnswerT
-use Rattle.engine.specs.Run.{Said, refusal, runs, begun, saying}
-use Rattle.engine.proofs.Laws.{runs-within}
+use Rattle.engine.specs.Run.{refusal, runs, begun, saying}
+use Rattle.engine.proofs.Admitted.{Admitted, admitted}
 use Rattle.engine.proofs.run.Statement.{statement}
 use Rattle.engine.proofs.run.Tie as tie
 
@@ -25,9 +24,9 @@ refuses Ranges p store input n s = refl
 refuses (BadWord k) p store input n s = refl
 refuses LogFull p store input n s = refl
 
-lets-run : {a : Answer} (store input : List ℕ) (s : State) → saying a ≡ refusal store input s → a ≡ Done → (length store ≡ 64) × (s .line < 64)
+lets-run : {a : Answer} (store input : List ℕ) (s : State) → saying a ≡ refusal store input s → a ≡ Done → Admitted store input s
 unfolding saying
-lets-run store input s e d = runs-within store input s (ap (λ (x : Said). x .number) (sym e ∙ ap saying d))
+lets-run store input s e d = admitted store input s (sym e ∙ ap saying d)
 
 check-requires : tie.Need-check-requires
 check-requires c κs = search needs
@@ -36,7 +35,9 @@ enum-told : tie.Need-enum-told
 enum-told c = search needs
 
 repeat-requires : tie.Need-repeat-requires
-repeat-requires c κs = lets-run _ _ _ (c .before .before .before .before .check .ensures) (c .before .before .enum-told .given .1)
+repeat-requires c κs =
+    let a = lets-run _ _ _ (c .before .before .before .before .check .ensures) (c .before .before .enum-told .given .1) in
+    (a .lines, a .line)
 
 same-length : tie.Need-same-length
 same-length c = search needs

@@ -1,7 +1,7 @@
 -- `step`: what the code did is what the control word drives; without RD and WR nothing is transferred, and a refused cycle puts back
 -- what stood in S.
 use Prim.Native.Nat.{ℕ}
-use mathlib.Core.Path.{_≡_, _∙_, ap}
+use mathlib.Core.Path.{_≡_}
 use borrow.Author.Needs.{needs}
 use Rattle.microword.specs.Microword.{fieldsOf}
 use Rattle.engine.proofs.Laws.{carried, refused, rests}

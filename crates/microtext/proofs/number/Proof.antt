@@ -6,7 +6,7 @@ use Prim.Native.Nat.{ℕ, _≤_, _/_, _%_}
 use mathlib.Core.Path.{_≡_}
 use borrow.Author.Tests.{leb-true}
 use borrow.Author.Needs.{needs}
-use Rattle.microtext.proofs.Tests.{both}
+use Rattle.word.proofs.Tests.{both}
 use Rattle.microtext.specs.Progress.{numberOf}
 use Rattle.microtext.specs.Tokens.{digit}
 use Rattle.microtext.proofs.number.Statement.{statement}

@@ -79,9 +79,6 @@ val = LL.val T.the-type T′.the-laws
 abbrev vals : Machine → List Val
 vals = LL.vals T.the-type T′.the-laws
 
-abbrev answerVal : Answer → Val
-answerVal = EL.val N.the-type N′.the-laws
-
 -- the struct that is returned, and its machine value
 abbrev made : Answer → Machine → Pressed
 made r m = record { answer = r; machine = m }

@@ -1,7 +1,6 @@
 -- `low_bits` keeps the low bits by the mask 2 ^ width - 1; at 32 bits and more it keeps all.
 use lib.Bits.{and-mask}
-use Prim.Native.Nat.{_*_, _%_, _^_}
-use mathlib.Core.Path.{_≡_, sym}
+use mathlib.Core.Path.{sym}
 use lib.Pow.{pow-pos}
 use borrow.Author.Needs.{needs}
 use Rattle.word.proofs.Laws.{kept-wide, one-up}

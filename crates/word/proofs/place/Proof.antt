@@ -1,6 +1,5 @@
 -- `place` joins by `|` what is moved up and the field below, which share no bit.
 use native.Mathlib.Nat.{zero-add, le-of-lt}
-use mathlib.Core.Path.{_≡_, sym}
 use borrow.Author.Needs.{needs}
 use Rattle.word.proofs.Laws.{moved-out}
 use Rattle.word.proofs.Laws.{kept-wide, or-placed}

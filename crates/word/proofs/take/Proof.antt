@@ -1,7 +1,7 @@
 -- `take` moves the field down and keeps its width; past bit 31 there is nothing.
 use Prim.Native.Nat.{_<_, _^_}
 use native.Mathlib.Nat.{div-eq-of-lt, zero-mod}
-use mathlib.Core.Path.{_≡_, sym}
+use mathlib.Core.Path.{sym}
 use lib.Pow.{pow-mono}
 use native.Mathlib.Omega.{arith}
 use borrow.Author.Needs.{needs}

@@ -2,11 +2,11 @@
 -- continued by another.
 use Prim.Native.Nat.{ℕ, zero, suc, _+_, _-_, _%_, _≤_, _<_}
 use mathlib.Core.Path.{_≡_, refl, ap, sym, _∙_}
-use mathlib.Core.List.{List, [], _∷_}
+use mathlib.Core.List.{List}
 use mathlib.Core.Bool.{Bool, true, false, cond, not, _||_, true≢false}
 use native.Mathlib.Omega.{arith}
 use native.Mathlib.Decide.{ℕ-discrete, decLt}
-use lib.ListN.{length, getD, set, length-set, List·getD-eq-default}
+use lib.ListN.{length, getD, set}
 use lib.Seq.{getD-set-same, getD-set-other, set-out}
 use lib.Dec.{ltb, eqb}
 use borrow.Author.Tests.{ltb-true, ltb-false, eqb-true, le-ltb, eq-eqb}
@@ -16,14 +16,15 @@ use Rattle.bus.specs.Log.{after}
 use Rattle.bus.proofs.Laws.{kept, after-words}
 use Rattle.datapath.specs.declared.Half.{Half}
 use Rattle.datapath.specs.declared.Half.the-variants.{Nothing, Read, Write}
-use Rattle.datapath.specs.Result.{keeps, jumps, negative, isZero}
+use Rattle.datapath.specs.Result.{keeps}
 use Rattle.datapath.specs.Transfer.{Found, Transfer, waits, completedRead, completedWrite, reads, writes, transferred, sends, foundIn, leftIn}
 use Rattle.datapath.proofs.Laws.{transfer-leaves}
 use Rattle.microword.specs.declared.Fields.{Fields}
 use Rattle.microword.specs.Microword.{fieldsOf, firstBad}
 use Rattle.microword.proofs.Laws.{fields-within}
-use Rattle.engine.specs.Cycle.{State, Cycled, register, result, stored, found, transfer, target, nextLine, driven, settled, cycle}
-use Rattle.engine.specs.Run.{Said, says, refusal, Ended, plus, onwards, cycles}
+use Rattle.engine.specs.Cycle.{State, controlWord, register, result, stored, found, transfer, nextLine, driven, cycle}
+use Rattle.engine.specs.Run.{Said, says, refusal, plus, onwards, cycles}
+use Rattle.engine.proofs.Laws.{settled-keeps, target-within}
 
 -- The facts behind "refusal 0".
 pub record Admitted (store input : List ℕ) (s : State) : Type 0 where
@@ -36,9 +37,6 @@ pub record Admitted (store input : List ℕ) (s : State) : Type 0 where
   pub rem : register 6 s < 4096
   pub line : s .line < 64
   pub good : 64 ≤ firstBad store
-
-said-apart : {n : ℕ} → says n ≡ says 0 → n ≡ 0
-said-apart e = ap (λ (x : Said). x .number) e
 
 -- Four tests in turn let a state through only where none holds.
 tests-pass : (a b c d : Bool) (k : ℕ) → cond a (says 1) (cond b (says 2) (cond c (says 3) (cond d (record { number = 4; line = k }) (says 0)))) ≡ says 0
@@ -147,12 +145,6 @@ stays-low m value word registers r other low h = rw (getD-set-other (stored m va
     by true = at (ℕ-discrete (m .s) r) (decLt r (length registers))
     by false = h
 
--- The line stays below 64.
-target-below : (m : Fields) (jump : Bool) (line : ℕ) → m .end < 64 → target m jump line < 64
-unfolding target
-target-below m true line h = h
-target-below m false line h = omega arith
-
 -- What a good control word drives is admitted again.
 driven-admitted : (m : Fields) (store input : List ℕ) (s : State) → m .end < 64 → Admitted store input s → Admitted store input (driven m input s .next)
 unfolding driven transfer nextLine
@@ -169,7 +161,7 @@ driven-admitted m store input s h a =
       cp = stays-low m value (t .rdm) (s .registers) 0 (λ q. omega arith) (unfold keeps in (cut value)) (a .cp);
       pp = stays-low m value (t .rdm) (s .registers) 2 (λ q. omega arith) (unfold keeps in (cut value)) (a .pp);
       rem = stays-low m value (t .rdm) (s .registers) 6 (λ q. omega arith) (unfold keeps in (cut value)) (a .rem);
-      line = target-below m (jumps (m .sq) (negative value) (isZero value)) (s .line) h;
+      line = target-within m _ (s .line) h;
       good = a .good;
     }
   where
@@ -177,12 +169,10 @@ driven-admitted m store input s h a =
     cut n = omega arith
 
 cycle-admitted : (store input : List ℕ) (s : State) → Admitted store input s → Admitted store input (cycle store input s .next)
-unfolding cycle settled
-cycle-admitted store input s a = by (driven (fieldsOf (getD store (s .line) 0)) input s .full)
-  where
-    by : (full : Bool) → Admitted store input (cond full (record { next = s; full = true }) (driven (fieldsOf (getD store (s .line) 0)) input s) .next)
-    by true = a
-    by false = driven-admitted (fieldsOf (getD store (s .line) 0)) store input s (fields-within (getD store (s .line) 0) .end) a
+unfolding cycle
+cycle-admitted store input s a =
+    let m : Fields = fieldsOf (controlWord store (s .line)) in
+    settled-keeps (Admitted store input) s (driven m input s) a (driven-admitted m store input s (fields-within (controlWord store (s .line)) .end) a)
 
 -- A run from an admitted state ends in an admitted state.
 pub cycles-admitted : (store input : List ℕ) (n : ℕ) (s : State) → Admitted store input s → Admitted store input (cycles store input n s .state)
