@@ -1,21 +1,15 @@
--- Laws of the calls from C: a press is a run of 1, what a state handed on stands for, and no second answer.
-use Prim.Native.Nat.{ℕ, _<_}
+-- Laws of the calls from C: a press is a run of 1, and no second answer.
+use Prim.Native.Nat.{ℕ}
 use mathlib.Core.Path.{_≡_, refl, sym, _∙_, ap}
 use mathlib.Core.Bool.{Bool, true, false, cond}
 use mathlib.Core.List.{List}
-use borrow.Author.Tests.{lt-ltb}
-use lib.Dec.{ltb, eqb}
-use Rattle.datapath.specs.declared.Half.{Half}
-use Rattle.datapath.specs.declared.Half.the-variants.{Nothing, Read, Write}
+use lib.Dec.{eqb}
 use Rattle.engine.specs.Cycle.{State, cycle}
 use Rattle.engine.specs.Run.{Said, Ended, saying, onwards, plus, cycles, refusal, begun, runs, endedBy, Press, press, pressedBy}
-use Rattle.engine.specs.declared.Machine.{Machine}
 use Rattle.engine.specs.declared.Pressed.{Pressed}
 use Rattle.engine.specs.declared.Ran.{Ran}
 use Rattle.assembler.specs.Assembled.{Outcome}
 use Rattle.image.specs.Image.{Reading}
-use Rattle.facetgrove.specs.Called.{Called}
-use Rattle.facetgrove.specs.Engine.{halfOf, halfNumber, lineOf, stateList, machineOf}
 use Rattle.facetgrove.specs.Rooms.{Filled}
 
 -- A run of 1 carried out its cycle where it answers 0, and none where it answers anything else.
@@ -44,38 +38,7 @@ pressed store input memory log s p e same =
     ∙ ap (λ (q : Press). record { state = q .state; done = cond (eqb (q .said .number) 0) 1 0; said = q .said }) e
     ∙ ap (λ (r : Ran). endedBy r memory log) (sym same)
 
--- Half done comes back from its number, which is at most 2.
-half-back : (half : Half) → halfOf (halfNumber half) ≡ half
-unfolding halfOf
-half-back Nothing = refl
-half-back Read = refl
-half-back Write = refl
-
-known : (half : Half) → ltb 2 (halfNumber half) ≡ false
-known Nothing = refl
-known Read = refl
-known Write = refl
-
--- What a run left stands for the machine that it left, so the next call goes on where this one ended.
-pub handed-on : (m : Machine) → m .line .0 < 64 → machineOf (m .registers) (stateList (m .place) (m .count) (m .line .0) (m .half)) ≡ m
-unfolding machineOf lineOf
-handed-on m h = rw (known (m .half), lt-ltb _ _ h, half-back (m .half))
-
--- No second answer: a call's equation fixes the answer and every lent list. Of a run:
-pub called-only : {d : Called} {answer answer′ : ℕ} {registers registers′ state state′ memory memory′ log log′ told told′ : List ℕ}
-    → d ≡ record { answer = answer; registers = registers; state = state; memory = memory; log = log; told = told }
-    → d ≡ record { answer = answer′; registers = registers′; state = state′; memory = memory′; log = log′; told = told′ }
-    → (answer ≡ answer′) × (registers ≡ registers′) × (state ≡ state′) × (memory ≡ memory′) × (log ≡ log′) × (told ≡ told′)
-called-only p q =
-    let e = sym p ∙ q in (
-      ap (λ (x : Called). x .answer) e,
-      ap (λ (x : Called). x .registers) e,
-      ap (λ (x : Called). x .state) e,
-      ap (λ (x : Called). x .memory) e,
-      ap (λ (x : Called). x .log) e,
-      ap (λ (x : Called). x .told) e,
-    )
-
+-- No second answer: a call's equation fixes the answer and every lent list; of a run, `called-only` of caller says it.
 -- Of a listing and of an image written:
 pub filled-only : {d : Filled} {answer answer′ : ℕ} {room room′ told told′ : List ℕ}
     → d ≡ record { answer = answer; room = room; told = told } → d ≡ record { answer = answer′; room = room′; told = told′ }

@@ -20,9 +20,10 @@ use Rattle.interpreter.specs.Run.{
   begun as Interpreter·begun,
   runs as Interpreter·runs,
 }
-use Rattle.facetgrove.specs.Called.{Called}
-use Rattle.facetgrove.specs.Engine.{lineOf, machineOf, ranBy, leaves, engineCalled}
-use Rattle.facetgrove.specs.Interpreter.{cpuOf, leaves as interpreter-leaves, interpreterCalled}
+use Rattle.caller.specs.Called.{Called}
+use Rattle.caller.specs.Engine.{lineOf, machineOf, ranBy, leaves}
+use Rattle.caller.specs.Interpreter.{cpuOf, leaves as interpreter-leaves}
+use Rattle.facetgrove.specs.Runs.{engineCalled, interpreterCalled}
 
 -- Cycles answer 0 or 5.
 cycles-ran : (store input : List ℕ) (n : ℕ) (s : State) → ranBy (cycles store input n s .said .number) ≡ true

@@ -1,4 +1,2 @@
-pub mod Called
-pub mod Engine
-pub mod Interpreter
+pub mod Runs
 pub mod Rooms

@@ -1,6 +1,6 @@
 -- `facetgrove_engine_run`: the engine's promise for the machine that the lists stand for, spread over the lists again.
 use borrow.Author.Needs.{needs}
-use Rattle.facetgrove.specs.Engine.{engineCalled}
+use Rattle.facetgrove.specs.Runs.{engineCalled}
 use Rattle.facetgrove.proofs.facetgrove_engine_run.Statement.{statement}
 use Rattle.facetgrove.proofs.facetgrove_engine_run.Tie as tie
 

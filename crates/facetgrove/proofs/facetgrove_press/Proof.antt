@@ -1,7 +1,7 @@
 -- `facetgrove_press`: the panel's promise, by the law that a press is a run of 1.
 use borrow.Author.Needs.{needs}
 use Rattle.facetgrove.proofs.Laws.{pressed}
-use Rattle.facetgrove.specs.Engine.{engineCalled}
+use Rattle.facetgrove.specs.Runs.{engineCalled}
 use Rattle.facetgrove.proofs.facetgrove_press.Statement.{statement}
 use Rattle.facetgrove.proofs.facetgrove_press.Tie as tie
 

@@ -1,11 +1,10 @@
--- The interpreter called from C: its registers as lists of numbers, and what a run leaves in them (01, Instructions; Answer numbers).
+-- The interpreter's registers as lists of numbers, and what a run leaves in them (01, Instructions; Answer numbers).
 use Prim.Native.Nat.{ℕ}
 use mathlib.Core.List.{List, [], _∷_}
 use lib.ListN.{getD}
 use Rattle.instruction.specs.declared.Cpu.{Cpu}
-use Rattle.interpreter.specs.Run.{Ended, runs}
-use Rattle.instruction.specs.Instruction.{stateOf}
-use Rattle.facetgrove.specs.Called.{Called}
+use Rattle.interpreter.specs.Run.{Ended}
+use Rattle.caller.specs.Called.{Called}
 
 -- `registers` is CP, AC and PP, `state` the input place and the log count.
 abbrev pub cpuOf : List ℕ → List ℕ → Cpu
@@ -29,7 +28,3 @@ leaves e =
       log = e .state .log;
       told = e .done ∷ e .cycles ∷ [];
     }
-
--- A run of n instructions.
-unfoldable pub interpreterCalled : List ℕ → ℕ → List ℕ → List ℕ → List ℕ → List ℕ → Called
-interpreterCalled input n registers state memory log = leaves (runs input n (stateOf (cpuOf registers state) memory log))

@@ -3,8 +3,8 @@ use mathlib.Core.Path.{_≡_, refl}
 use mathlib.Core.Bool.{Bool, true, false, cond}
 use mir.Val.{boolByte}
 use borrow.Author.Needs.{needs}
-use Rattle.facetgrove.proofs.counted.Statement.{statement}
-use Rattle.facetgrove.proofs.counted.Tie as tie
+use Rattle.caller.proofs.counted.Statement.{statement}
+use Rattle.caller.proofs.counted.Tie as tie
 
 -- A test as a number.
 tested : (test : Bool) → boolByte test ≡ cond test 1 0

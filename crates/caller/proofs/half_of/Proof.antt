@@ -1,8 +1,8 @@
 -- `half_of` takes the numbers in the definition's order.
 use borrow.Author.Tests.{eq-eqb, ne-eqb}
-use Rattle.facetgrove.specs.Engine.{halfOf}
-use Rattle.facetgrove.proofs.half_of.Statement.{statement}
-use Rattle.facetgrove.proofs.half_of.Tie as tie
+use Rattle.caller.specs.Engine.{halfOf}
+use Rattle.caller.proofs.half_of.Statement.{statement}
+use Rattle.caller.proofs.half_of.Tie as tie
 
 returns : tie.Need-returns
 unfolding halfOf

@@ -2,9 +2,9 @@
 use mathlib.Core.Path.{_≡_}
 use mathlib.Core.Bool.{true, false}
 use borrow.Author.Needs.{needs}
-use Rattle.facetgrove.specs.Engine.{ranBy}
-use Rattle.facetgrove.proofs.put_machine.Statement.{statement}
-use Rattle.facetgrove.proofs.put_machine.Tie as tie
+use Rattle.caller.specs.Engine.{ranBy}
+use Rattle.caller.proofs.put_machine.Statement.{statement}
+use Rattle.caller.proofs.put_machine.Tie as tie
 
 cast-t11 : tie.Need-cast-t11
 cast-t11 c = search needs

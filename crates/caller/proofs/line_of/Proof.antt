@@ -3,9 +3,9 @@ use Prim.Native.Nat.{_<_, _≤_}
 use native.Mathlib.Omega.{arith}
 use borrow.Author.Tests.{lt-ltb, le-ltb}
 use borrow.Author.Needs.{needs}
-use Rattle.facetgrove.specs.Engine.{lineOf}
-use Rattle.facetgrove.proofs.line_of.Statement.{statement}
-use Rattle.facetgrove.proofs.line_of.Tie as tie
+use Rattle.caller.specs.Engine.{lineOf}
+use Rattle.caller.proofs.line_of.Statement.{statement}
+use Rattle.caller.proofs.line_of.Tie as tie
 
 returns : tie.Need-returns
 unfolding lineOf

@@ -1,4 +1,4 @@
--- The engine called from C: its machine as lists of numbers, and what a run leaves in them (01, Registers and microwords; Answer numbers).
+-- The engine's machine as lists of numbers, and what a run leaves in them (01, Registers and microwords; Answer numbers).
 use Prim.Native.Nat.{ℕ}
 use mathlib.Core.Bool.{Bool, cond, _||_}
 use mathlib.Core.List.{List, [], _∷_}
@@ -7,8 +7,8 @@ use lib.Dec.{ltb, eqb}
 use Rattle.datapath.specs.declared.Half.{Half}
 use Rattle.datapath.specs.declared.Half.the-variants.{Nothing, Read, Write}
 use Rattle.engine.specs.declared.Machine.{Machine}
-use Rattle.engine.specs.Run.{Ended, runs, stateOf}
-use Rattle.facetgrove.specs.Called.{Called}
+use Rattle.engine.specs.Run.{Ended}
+use Rattle.caller.specs.Called.{Called}
 
 -- Half done by its number: 0 nothing, 1 a read, else a write.
 unfoldable pub halfOf : ℕ → Half
@@ -54,7 +54,3 @@ leaves e registers state =
       log = e .state .log;
       told = e .done ∷ e .said .line ∷ [];
     }
-
--- A run of n cycles.
-unfoldable pub engineCalled : List ℕ → List ℕ → ℕ → List ℕ → List ℕ → List ℕ → List ℕ → Called
-engineCalled store input n registers state memory log = leaves (runs store input n (stateOf (machineOf registers state) memory log)) registers state

@@ -1,7 +1,7 @@
 -- `hand_back_interpreter`: each number has its place in the lists.
 use borrow.Author.Needs.{needs}
-use Rattle.facetgrove.proofs.hand_back_interpreter.Statement.{statement}
-use Rattle.facetgrove.proofs.hand_back_interpreter.Tie as tie
+use Rattle.caller.proofs.hand_back_interpreter.Statement.{statement}
+use Rattle.caller.proofs.hand_back_interpreter.Tie as tie
 
 cast-t9 : tie.Need-cast-t9
 cast-t9 c = search needs

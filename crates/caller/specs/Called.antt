@@ -1,4 +1,4 @@
--- What a run called from C leaves (01, What the promises say: every number returned and every lent word afterwards).
+-- What a run leaves its caller (01, What the promises say: every number returned and every lent word afterwards).
 use Prim.Native.Nat.{ℕ}
 use mathlib.Core.List.{List}
 

@@ -1,8 +1,8 @@
 -- `machine_of` puts the line and half done where the definition has them.
 use borrow.Author.Needs.{needs}
-use Rattle.facetgrove.specs.Engine.{machineOf}
-use Rattle.facetgrove.proofs.machine_of.Statement.{statement}
-use Rattle.facetgrove.proofs.machine_of.Tie as tie
+use Rattle.caller.specs.Engine.{machineOf}
+use Rattle.caller.proofs.machine_of.Statement.{statement}
+use Rattle.caller.proofs.machine_of.Tie as tie
 
 array-read-line-of : tie.Need-array-read-line-of
 array-read-line-of c = search needs

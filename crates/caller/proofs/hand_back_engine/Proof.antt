@@ -1,8 +1,8 @@
 -- `hand_back_engine`: what stays and what goes back hangs on the answer's number.
 use borrow.Author.Needs.{needs}
-use Rattle.facetgrove.specs.Engine.{leaves}
-use Rattle.facetgrove.proofs.hand_back_engine.Statement.{statement}
-use Rattle.facetgrove.proofs.hand_back_engine.Tie as tie
+use Rattle.caller.specs.Engine.{leaves}
+use Rattle.caller.proofs.hand_back_engine.Statement.{statement}
+use Rattle.caller.proofs.hand_back_engine.Tie as tie
 
 cast-t8 : tie.Need-cast-t8
 cast-t8 c = search needs
