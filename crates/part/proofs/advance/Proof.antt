@@ -88,31 +88,31 @@ returns c = simp (c .before .enum-told .given .1, ← c .from-start .ensures)
 
 returns-2 : tie.Need-returns-2
 unfolding advance
-returns-2 c = simp (c .before .before .place .given .1, c .before .known-told .given .1, ← c .expect .ensures)
+returns-2 c = simp (c .before .before .place .given .1, ← c .expect .ensures)
 
 returns-3 : tie.Need-returns-3
 unfolding advance
-returns-3 c = simp (c .before .before .place2 .given .1, c .before .known-told2 .given .1, ← c .from-assigned .ensures)
+returns-3 c = simp (c .before .before .place2 .given .1, ← c .from-assigned .ensures)
 
 returns-4 : tie.Need-returns-4
 unfolding advance
-returns-4 c = simp (c .before .before .place3 .given .1, c .before .known-told3 .given .1, ← c .from-value .ensures)
+returns-4 c = simp (c .before .before .place3 .given .1, ← c .from-value .ensures)
 
 returns-5 : tie.Need-returns-5
 unfolding advance
-returns-5 c = simp (c .before .before .place4 .given .1, c .before .known-told4 .given .1, ← c .from-shift .ensures)
+returns-5 c = simp (c .before .before .place4 .given .1, ← c .from-shift .ensures)
 
 returns-6 : tie.Need-returns-6
 unfolding advance
-returns-6 c = simp (c .before .before .place5 .given .1, c .before .known-told5 .given .1, ← c .from-first .ensures)
+returns-6 c = simp (c .before .before .place5 .given .1, ← c .from-first .ensures)
 
 returns-7 : tie.Need-returns-7
 unfolding advance
-returns-7 c = simp (c .before .before .place6 .given .1, c .before .known-told6 .given .1, ← c .from-sign .ensures)
+returns-7 c = simp (c .before .before .place6 .given .1, ← c .from-sign .ensures)
 
 returns-8 : tie.Need-returns-8
 unfolding advance
-returns-8 c = simp (c .before .before .place7 .given .1, c .before .known-told7 .given .1, ← c .expect2 .ensures)
+returns-8 c = simp (c .before .before .place7 .given .1, ← c .expect2 .ensures)
 
 returns-9 : tie.Need-returns-9
 unfolding advance
@@ -120,15 +120,15 @@ returns-9 c = simp (c .before .enum-told2 .given .1, ← c .from-if .ensures)
 
 returns-10 : tie.Need-returns-10
 unfolding advance
-returns-10 c = simp (c .before .before .place8 .given .1, c .before .known-told8 .given .1, ← c .expect3 .ensures)
+returns-10 c = simp (c .before .before .place8 .given .1, ← c .expect3 .ensures)
 
 returns-11 : tie.Need-returns-11
 unfolding advance
-returns-11 c = simp (c .before .before .place9 .given .1, c .before .known-told9 .given .1, ← c .expect4 .ensures)
+returns-11 c = simp (c .before .before .place9 .given .1, ← c .expect4 .ensures)
 
 returns-12 : tie.Need-returns-12
 unfolding advance
-returns-12 c = simp (c .before .before .place10 .given .1, c .before .known-told10 .given .1, ← c .from-goto .ensures)
+returns-12 c = simp (c .before .before .place10 .given .1, ← c .from-goto .ensures)
 
 returns-13 : tie.Need-returns-13
 unfolding advance

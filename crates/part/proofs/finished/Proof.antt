@@ -71,7 +71,7 @@ returns-5 c = simp (c .enum-told5 .given .1)
 
 returns-6 : tie.Need-returns-6
 unfolding finished
-returns-6 c = simp (c .before .before .place .given .1, c .before .known-told .given .1, c .alone .ensures)
+returns-6 c = simp (c .before .before .place .given .1, c .alone .ensures)
 
 returns-7 : tie.Need-returns-7
 unfolding finished
@@ -99,7 +99,7 @@ returns-12 c = simp (c .enum-told11 .given .1)
 
 returns-13 : tie.Need-returns-13
 unfolding finished
-returns-13 c = simp (c .before .place2 .given .1, c .known-told2 .given .1)
+returns-13 c = simp (c .before .place2 .given .1)
 
 returns-14 : tie.Need-returns-14
 unfolding finished
