@@ -9,9 +9,9 @@ use Rattle.microword.specs.Microword.{fieldsOf, wordOf}
 use Rattle.engine.specs.Cycle.{result, stored, transfer, target, nextLine, driven, settled as left, cycle}
 use Rattle.engine.specs.Run.{plus, onwards, cycles}
 use Rattle.printed.specs.Printed.{printed}
-use Rattle.microtext.specs.Text.{same}
-use Rattle.microtext.specs.Tokens.{every, oneToken, begun, under, ended, going, tokensAfter}
-use Rattle.microtext.specs.Grammar.{place, register, destination, number, operation, formula, last, front, bare, jump, test, part}
+use Rattle.token.specs.Text.{same}
+use Rattle.token.specs.Tokens.{every, oneToken, begun, under, ended, going, tokensAfter}
+use Rattle.part.specs.Grammar.{place, register, destination, number, operation, formula, last, front, bare, jump, test, part}
 use Rattle.microtext.specs.Line.{cut, divided, lastPart, parts, someForeign, add, given, clash, settled, meaning, behindNumber, numbered, line}
 use Rattle.instruction.specs.Instruction.{sets, writes, gains, jumps, action, fetched, past, acted, instruct}
 use Rattle.agreement.specs.Figures.{Figure, figures, stop}

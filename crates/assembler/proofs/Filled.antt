@@ -9,9 +9,9 @@ use borrow.Author.Tests.{eq-eqb, ne-eqb, lt-ltb, le-ltb, le-leb, lt-leb, ltb-tru
 use lib.Dec.{ltb, eqb, leb·suc-suc}
 use lib.ListN.{length, drop, set, length-drop, drop-of-length-le}
 use lib.Seq.{drop-drop}
-use Rattle.microtext.specs.Text.{before as bytesBefore}
+use Rattle.token.specs.Text.{before as bytesBefore, lineAt, endAt}
 use Rattle.microtext.specs.Line.{line}
-use Rattle.microtext.specs.Reading.{lineAt, endAt, nextLine, reading, readingAt}
+use Rattle.microtext.specs.Reading.{nextLine, reading, readingAt}
 use Rattle.microtext.specs.declared.Fault.{Fault}
 use Rattle.microtext.specs.declared.Meaning.{Meaning}
 use Rattle.microtext.specs.declared.Meaning.the-variants.{Word, Refused as RefusedLine}

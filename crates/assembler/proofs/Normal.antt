@@ -9,12 +9,12 @@ use lib.Dec.{leb, ltb, eqb}
 use Rattle.microword.specs.Microword.{wordOf, idle, binary, unusedClear, isNormal}
 use Rattle.microword.proofs.Laws.{Within, fields-back, word-below}
 use Rattle.microword.specs.declared.Fields.{Fields}
-use Rattle.microtext.specs.Text.{_is_}
-use Rattle.microtext.specs.Tokens.{Token, tokens}
-use Rattle.microtext.specs.Grammar.{register, destination, number, operation, formula, bare, jump, test, part}
+use Rattle.token.specs.Text.{_is_}
+use Rattle.token.specs.Tokens.{Token, tokens}
+use Rattle.part.specs.Grammar.{register, destination, number, operation, formula, bare, jump, test, part}
 use Rattle.microtext.specs.Line.{lastPart, parts, divided, someForeign, tests, add, nothing, given, clash, settled, meaning, behindNumber, numbered, line}
-use Rattle.microtext.specs.declared.Part.{Part}
-use Rattle.microtext.specs.declared.Part.the-variants.{Operation, Transfer, Jump, Foreign}
+use Rattle.part.specs.declared.Part.{Part}
+use Rattle.part.specs.declared.Part.the-variants.{Operation, Transfer, Jump, Foreign}
 use Rattle.microtext.specs.declared.Given.{Given}
 use Rattle.microtext.specs.declared.Fault.the-variants.{ExtraLine, WrongNumber, Ungrammatical, FarTarget, WrongParts}
 use Rattle.microtext.specs.declared.Meaning.the-variants.{Word, Refused}

@@ -5,7 +5,7 @@ use mathlib.Core.Bool.{cond}
 use mathlib.Core.List.{List, [], _∷_, _++_}
 use lib.Dec.{ltb}
 use lib.ListN.{length, take, drop}
-use Rattle.microtext.specs.Text.{bytes}
+use Rattle.token.specs.Text.{bytes}
 use Rattle.console.specs.declared.Run.{Run}
 
 -- The last digits of a number, at most `most`, with no leading zero; byte 48 is the digit 0.

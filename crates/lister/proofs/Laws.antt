@@ -13,8 +13,8 @@ use lib.Seq.{sets, sets-eq, drop-cons, take-suc, length-take-le, take-at}
 use Rattle.microword.specs.Microword.{fieldsOf, normalFields, normalForm, idle, binary, firstBad}
 use Rattle.microword.specs.declared.Fields.{Fields}
 use Rattle.microtext.specs.Listing.{decimal, register, formulas, formula, operation, jumps, jump, part, line, lines, upTo, shown, listing, transferPart}
-use Rattle.microtext.specs.Text.{bytes}
-use Rattle.microtext.specs.Grammar.{registers}
+use Rattle.token.specs.Text.{bytes}
+use Rattle.part.specs.Grammar.{registers}
 use Rattle.lister.specs.Pieces.{Wrote, entry, Entry, Small, signsBefore, signsBehind}
 use Rattle.lister.specs.Answers.{Outcome, number, named, refused, done, listed, seen}
 use Rattle.lister.specs.declared.Answer.{Answer}

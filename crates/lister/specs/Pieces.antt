@@ -6,7 +6,7 @@ use mathlib.Core.List.{List, [], _∷_}
 use lib.ListN.{length, getD, take, drop}
 use lib.Seq.{sets}
 use Rattle.microtext.specs.Listing.{register}
-use Rattle.microtext.specs.Text.{bytes}
+use Rattle.token.specs.Text.{bytes}
 use Rattle.microword.specs.Microword.{binary}
 use Rattle.microword.specs.declared.Fields.{Fields}
 

@@ -7,10 +7,12 @@ use native.Mathlib.Omega.{arith}
 use borrow.Author.Tests.{eq-eqb, ne-eqb, eqb-false}
 use lib.Dec.{eqb}
 use lib.ListN.{length}
-use Rattle.microtext.specs.Progress.{codesAt, NextToken, taken, allTaken, noParts}
-use Rattle.microtext.specs.Reading.{endAt}
+use Rattle.token.specs.Text.{endAt}
+use Rattle.token.specs.Next.{codesAt, scanned}
+use Rattle.token.specs.declared.Scanned.{Scanned}
+use Rattle.token.proofs.Next.{NextToken, next as next-token}
+use Rattle.microtext.specs.Progress.{taken, allTaken, noParts}
 use Rattle.microtext.specs.declared.Parts.{Parts}
-use Rattle.microtext.specs.declared.Scanned.{Scanned}
 
 -- The tokens to come, where the next one has been scanned.
 abbrev pub toCome : List ℕ → Scanned → List ℕ
@@ -22,14 +24,16 @@ pub record Reached (text : List ℕ) (at : ℕ) (parts : Parts) (next : Scanned)
   pub none : next .token ≡ 1 → next .behind ≡ endAt text at
   pub inside : (next .token ≡ 1 → ⊥) → next .behind ≤ length text
 
-pub reached-start : (text : List ℕ) (at : ℕ) (next : Scanned) → NextToken text at next → Reached text at noParts next
-reached-start text at next n =
+pub reached-start : (text : List ℕ) (at : ℕ) (next : Scanned) → next ≡ scanned text at → Reached text at noParts next
+reached-start text at next e =
+    let n : NextToken text at next = next-token text at next e in
     record { all = ap (allTaken noParts) (sym (n .codes)); line-end = n .line-end; none = n .none; inside = λ e. n .some e .1 }
 
 pub reached-next : (text : List ℕ) (at : ℕ) (parts parts′ : Parts) (next next′ : Scanned) → Reached text at parts next → (next .token ≡ 1 → ⊥)
-    → parts′ ≡ taken parts (next .token) → NextToken text (next .behind) next′ → Reached text at parts′ next′
+    → parts′ ≡ taken parts (next .token) → next′ ≡ scanned text (next .behind) → Reached text at parts′ next′
 unfolding allTaken
-reached-next text at parts parts′ next next′ r e p n =
+reached-next text at parts parts′ next next′ r e p q =
+    let n : NextToken text (next .behind) next′ = next-token text (next .behind) next′ q in
     let a : allTaken parts (next .token ∷ codesAt text (next .behind)) ≡ allTaken noParts (codesAt text at) = rw (ne-eqb (next .token) 1 e) at (r .all) in
     record {
       all = ap (allTaken parts′) (sym (n .codes)) ∙ ap (λ (x : Parts). allTaken x (codesAt text (next .behind))) p ∙ a;
@@ -48,9 +52,12 @@ abbrev pub remaining : List ℕ → Scanned → ℕ
 remaining text next = cond (eqb (next .token) 1) 0 (length text + 1 - next .behind)
 
 pub remaining-less : (text : List ℕ) (at : ℕ) (parts : Parts) (next next′ : Scanned) → Reached text at parts next → (next .token ≡ 1 → ⊥)
-    → NextToken text (next .behind) next′ → remaining text next′ < remaining text next
-remaining-less text at parts next next′ r e n = rw (ne-eqb (next .token) 1 e) (go (eqb (next′ .token) 1) refl (r .inside e))
+    → next′ ≡ scanned text (next .behind) → remaining text next′ < remaining text next
+remaining-less text at parts next next′ r e p = rw (ne-eqb (next .token) 1 e) (go (eqb (next′ .token) 1) refl (r .inside e))
   where
+    n : NextToken text (next .behind) next′
+    n = next-token text (next .behind) next′ p
+
     go : (b : Bool) → eqb (next′ .token) 1 ≡ b → next .behind ≤ length text → cond b 0 (length text + 1 - next′ .behind) < length text + 1 - next .behind
     go true q h = omega arith
     go false q h = omega (arith, n .some (eqb-false (next′ .token) 1 q) .0, n .some (eqb-false (next′ .token) 1 q) .1)

@@ -1,35 +1,34 @@
 -- A whole line: its tokens taken one by one come to what the line means.
-use Prim.Native.Nat.{ℕ, zero, suc, _+_, _≤_, _<_}
+use Prim.Native.Nat.{ℕ, _+_, _≤_, _<_}
 use mathlib.Core.Path.{_≡_, refl, sym, ap, _∙_}
 use mathlib.Core.Bool.{Bool, true, false, cond, _||_, or-false, true≢false}
-use mathlib.Core.List.{List, [], _∷_, _++_, map}
+use mathlib.Core.List.{List, [], _∷_, map}
 use native.Mathlib.Omega.{arith}
 use borrow.Author.Tests.{lt-ltb, le-ltb, eq-eqb, ne-eqb}
 use lib.Dec.{ltb, eqb}
-use lib.ListN.{length, drop}
-use Rattle.microtext.specs.Text.{bytes, _is_, before}
-use Rattle.microtext.specs.Tokens.{Token, oneToken, under, ended, going, tokensAfter, tokens}
+use lib.ListN.{length}
+use Rattle.token.specs.Text.{bytes, _is_, lineAt, endAt}
+use Rattle.token.specs.Tokens.{Token, tokens}
+use Rattle.token.specs.Next.{packed, spelt, codesAt, scanned}
+use Rattle.token.specs.declared.Scanned.{Scanned}
+use Rattle.token.proofs.Bytes.{Bytes, AllBytes, line-bytes}
+use Rattle.token.proofs.Packed.{known}
+use Rattle.token.proofs.Next.{next}
+use Rattle.part.specs.Place.{numberOf, advance, finished}
+use Rattle.part.specs.declared.Part.{Part}
+use Rattle.part.specs.declared.Place.{Place}
+use Rattle.part.specs.declared.Place.the-variants.{Start, Wrong}
+use Rattle.part.proofs.Words.{number-of}
+use Rattle.part.proofs.Course.{rest, Fine, step, finish}
 use Rattle.microtext.specs.Line.{cut, divided, lastPart, parts, foreign, someForeign, add, nothing, given, settled, meaning, behindNumber, numbered, line}
-use Rattle.microtext.specs.Progress.{packed, spelt, numberOf, advance, finished, closed, taken, allTaken, concluded, noParts, codesAt, NextToken}
-use Rattle.microtext.specs.Reading.{lineAt, endAt, reading, nextLine, readingAt}
-use Rattle.microtext.specs.declared.Part.{Part}
-use Rattle.microtext.specs.declared.Place.{Place}
-use Rattle.microtext.specs.declared.Place.the-variants.{Start, Wrong}
+use Rattle.microtext.specs.Progress.{closed, taken, allTaken, concluded, noParts}
+use Rattle.microtext.specs.Reading.{reading, nextLine, readingAt}
 use Rattle.microtext.specs.declared.Given.{Given}
 use Rattle.microtext.specs.declared.Parts.{Parts}
-use Rattle.microtext.specs.declared.Scanned.{Scanned}
 use Rattle.microtext.specs.declared.Fault.the-variants.{ExtraLine, WrongNumber, Ungrammatical}
 use Rattle.microtext.specs.declared.Meaning.{Meaning}
 use Rattle.microtext.specs.declared.Meaning.the-variants.{Refused}
 use Rattle.microtext.specs.declared.Reading.the-variants.{Faulty}
-use Rattle.microtext.proofs.Packed.{Bytes, known}
-use Rattle.microtext.proofs.Words.{number-of}
-use Rattle.microtext.proofs.Scan.{under-bytes}
-use Rattle.microtext.proofs.Course.{rest, Fine, step, finish}
-
-abbrev AllBytes : List Token → Type 0
-AllBytes [] = Unit {0}
-AllBytes (t ∷ ts) = Bytes t × AllBytes ts
 
 -- The parts of a line whose first piece has been read up to a place.
 lastFrom : Bool → Place → List Token → List Part
@@ -170,21 +169,6 @@ all-taken (t ∷ ts) a g begun q f s = go (t is ";") refl (all-taken ts (a .1))
         ∙ law g true (advance q (packed t)) (step q f t (a .0) ts .fine) (λ z. absurd (true≢false z))
         ∙ ap (meaning g) (sym (first-goes-on begun q (advance q (packed t)) t ts s e (λ xs. step q f t (a .0) xs .same-part)))
 
--- The tokens of bytes are bytes.
-ended-bytes : (t : List ℕ) (ts : List Token) → Bytes t → AllBytes ts → AllBytes (ended t ts)
-unfolding ended
-ended-bytes [] ts b a = a
-ended-bytes (c ∷ t) ts b a = (b, a)
-
-tokens-bytes : (s t : List ℕ) → Bytes s → Bytes t → AllBytes (tokensAfter t s)
-unfolding tokensAfter going
-tokens-bytes [] t a b = ended-bytes t [] b tt
-tokens-bytes (c ∷ s) t a b = go (oneToken (t ++ c ∷ [])) (tokens-bytes s (under t c) (a .1) (under-bytes t c b (a .0)))
-  where
-    go : (j : Bool) → AllBytes (tokensAfter (under t c) s) → AllBytes (going j t (tokensAfter (under t c) s))
-    go true h = h
-    go false h = ended-bytes t (tokensAfter (under t c) s) b h
-
 -- A line on its tokens' numbers.
 codedParts : List ℕ → Meaning
 codedParts [] = Refused Ungrammatical
@@ -205,31 +189,17 @@ unfolding numbered coded
 coded-line k [] a = refl
 coded-line k (n ∷ ts) a = rw (number-of n (a .0), coded-parts ts (a .1))
 
-before-bytes : (b : ℕ) (s : List ℕ) → Bytes s → Bytes (before b s)
-unfolding before
-before-bytes b [] a = tt
-before-bytes b (c ∷ s) a = go (eqb c b) (before-bytes b s (a .1))
-  where
-    go : (t : Bool) → Bytes (before b s) → Bytes (cond t [] (c ∷ before b s))
-    go true h = tt
-    go false h = (a .0, h)
-
-drop-bytes : (n : ℕ) (s : List ℕ) → Bytes s → Bytes (drop n s)
-drop-bytes zero s a = a
-drop-bytes (suc n) [] a = tt
-drop-bytes (suc n) (c ∷ s) a = drop-bytes n s (a .1)
-
 -- A 65th line.
 pub extra-line : (text : List ℕ) (at k : ℕ) → 64 ≤ k → Faulty ExtraLine ≡ readingAt text at k
 unfolding readingAt line
 extra-line text at k h = rw (le-ltb k 64 h)
 
 -- A line of the first 64, by its first two tokens.
-module _ (text : List ℕ) (all-bytes : Bytes text) (at k : ℕ) (h : k < 64) (first : Scanned) (f : NextToken text at first) where
+module _ (text : List ℕ) (all-bytes : Bytes text) (at k : ℕ) (h : k < 64) (first : Scanned) (f : first ≡ scanned text at) where
   read : readingAt text at k ≡ reading (coded k (cond (eqb (first .token) 1) [] (first .token ∷ codesAt text (first .behind)))) (nextLine text at)
   unfolding readingAt line
   read =
-      rw (lt-ltb k 64 h, coded-line k (tokens (lineAt text at)) (tokens-bytes (lineAt text at) [] (before-bytes 10 (drop at text) (drop-bytes at text all-bytes)) tt), f .codes)
+      rw (lt-ltb k 64 h, coded-line k (tokens (lineAt text at)) (line-bytes text at all-bytes), next text at first f .codes)
 
   pub wrong-number : (numberOf (first .token) ≡ k → ⊥) → Faulty WrongNumber ≡ readingAt text at k
   unfolding coded
@@ -239,14 +209,14 @@ module _ (text : List ℕ) (all-bytes : Bytes text) (at k : ℕ) (h : k < 64) (f
       go true = refl
       go false = rw (ne-eqb (numberOf (first .token)) k e)
 
-  module _ (e : numberOf (first .token) ≡ k) (colon : Scanned) (c : NextToken text (first .behind) colon) where
+  module _ (e : numberOf (first .token) ≡ k) (colon : Scanned) (c : colon ≡ scanned text (first .behind)) where
     no-number : first .token ≡ 1 → ⊥
     unfolding numberOf
     no-number z = let n : 100 ≡ k = ap numberOf (sym z) ∙ e in omega arith
 
     read-on : readingAt text at k ≡ reading (codedParts (cond (eqb (colon .token) 1) [] (colon .token ∷ codesAt text (colon .behind)))) (nextLine text at)
     unfolding coded
-    read-on = read ∙ rw (ne-eqb (first .token) 1 no-number, eq-eqb (numberOf (first .token)) k e, c .codes)
+    read-on = read ∙ rw (ne-eqb (first .token) 1 no-number, eq-eqb (numberOf (first .token)) k e, next text (first .behind) colon c .codes)
 
     pub no-colon : (colon .token ≡ spelt ":" → ⊥) → Faulty Ungrammatical ≡ readingAt text at k
     unfolding codedParts
@@ -259,6 +229,6 @@ module _ (text : List ℕ) (all-bytes : Bytes text) (at k : ℕ) (h : k < 64) (f
     pub with-parts : colon .token ≡ spelt ":" → reading (concluded (allTaken noParts (codesAt text (colon .behind)))) (nextLine text (colon .behind)) ≡ readingAt text at k
     unfolding codedParts
     with-parts z =
-        let q : endAt text (colon .behind) ≡ endAt text at = c .line-end ∙ f .line-end in
+        let q : endAt text (colon .behind) ≡ endAt text at = next text (first .behind) colon c .line-end ∙ next text at first f .line-end in
         ap (λ (n : ℕ). reading (concluded (allTaken noParts (codesAt text (colon .behind)))) (cond (ltb n (length text)) (n + 1) n)) q
         ∙ sym (read-on ∙ rw z)

@@ -5,11 +5,11 @@ use mathlib.Core.List.{List, [], _∷_}
 use lib.Dec.{leb, ltb, eqb}
 use Rattle.microword.specs.Microword.{wordOf}
 use Rattle.microword.specs.declared.Fields.{Fields}
-use Rattle.microtext.specs.Text.{_is_}
-use Rattle.microtext.specs.Tokens.{Token, tokens}
-use Rattle.microtext.specs.Grammar.{number, part}
-use Rattle.microtext.specs.declared.Part.{Part}
-use Rattle.microtext.specs.declared.Part.the-variants.{Operation, Transfer, Jump, Foreign}
+use Rattle.token.specs.Text.{_is_}
+use Rattle.token.specs.Tokens.{Token, tokens}
+use Rattle.part.specs.Grammar.{number, part}
+use Rattle.part.specs.declared.Part.{Part}
+use Rattle.part.specs.declared.Part.the-variants.{Operation, Transfer, Jump, Foreign}
 use Rattle.microtext.specs.declared.Given.{Given}
 use Rattle.microtext.specs.declared.Fault.{Fault}
 use Rattle.microtext.specs.declared.Fault.the-variants.{ExtraLine, WrongNumber, Ungrammatical, FarTarget, WrongParts}

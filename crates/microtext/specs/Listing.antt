@@ -6,8 +6,8 @@ use lib.Dec.{ltb, eqb}
 use lib.ListN.{getD}
 use Rattle.microword.specs.Microword.{fieldsOf, normalForm, idle}
 use Rattle.microword.specs.declared.Fields.{Fields}
-use Rattle.microtext.specs.Text.{bytes}
-use Rattle.microtext.specs.Grammar.{registers}
+use Rattle.token.specs.Text.{bytes}
+use Rattle.part.specs.Grammar.{registers}
 
 -- A number below 100 in decimal, with no leading zero; byte 48 is the digit 0.
 unfoldable pub decimal : ℕ → List ℕ

@@ -1,22 +1,15 @@
--- The line of a text that begins at a place, and where the next one begins (01, Micro text and images).
+-- What the line of a text at a place means, and where the next one begins (01, Micro text and images).
 use Prim.Native.Nat.{ℕ, _+_}
 use mathlib.Core.Bool.{cond}
 use mathlib.Core.List.{List}
 use lib.Dec.{ltb}
-use lib.ListN.{length, drop}
-use Rattle.microtext.specs.Text.{before}
+use lib.ListN.{length}
+use Rattle.token.specs.Text.{lineAt, endAt}
 use Rattle.microtext.specs.Line.{line}
 use Rattle.microtext.specs.declared.Meaning.{Meaning}
 use Rattle.microtext.specs.declared.Meaning.the-variants.{Word, Refused}
 use Rattle.microtext.specs.declared.Reading.{Reading}
 use Rattle.microtext.specs.declared.Reading.the-variants.{Line, Faulty}
-
--- Lines end in byte 10, the last one optionally.
-abbrev pub lineAt : List ℕ → ℕ → List ℕ
-lineAt text at = before 10 (drop at text)
-
-abbrev pub endAt : List ℕ → ℕ → ℕ
-endAt text at = at + length (lineAt text at)
 
 -- Behind the byte 10 that ends the line, or at the text's end.
 abbrev pub nextLine : List ℕ → ℕ → ℕ

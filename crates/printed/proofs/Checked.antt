@@ -6,9 +6,9 @@ use mathlib.Core.List.{List, [], _∷_, map}
 use lib.ListN.{take, drop, replicate}
 use Rattle.word.specs.Number.{joined}
 use Rattle.microword.specs.Microword.{wordOf}
-use Rattle.microtext.specs.Text.{same}
-use Rattle.microtext.specs.Tokens.{every, oneToken, begun, under, ended, going, tokensAfter}
-use Rattle.microtext.specs.Grammar.{place, register, destination, number, operation, formula, last, front, bare, jump, test, part}
+use Rattle.token.specs.Text.{same}
+use Rattle.token.specs.Tokens.{every, oneToken, begun, under, ended, going, tokensAfter}
+use Rattle.part.specs.Grammar.{place, register, destination, number, operation, formula, last, front, bare, jump, test, part}
 use Rattle.microtext.specs.Line.{cut, divided, lastPart, parts, someForeign, add, given, clash, settled, meaning, behindNumber, numbered, line}
 use Rattle.microtext.specs.declared.Meaning.{Meaning}
 use Rattle.microtext.specs.declared.Meaning.the-variants.{Word}

@@ -6,13 +6,13 @@ use mathlib.Core.Bool.{Bool, true, false, not, _&&_, _||_, and-true, and-false, 
 use mathlib.Core.List.{List, [], _∷_, _++_, map}
 use borrow.Author.Tests.{not-true}
 use lib.Dec.{eqb}
-use Rattle.microtext.specs.Text.{same, _is_}
-use Rattle.microtext.specs.Tokens.{Token, letter, digit, every, oneToken, begun, under, ended, going, tokensAfter, tokens}
-use Rattle.microtext.specs.Grammar.{part}
+use Rattle.token.specs.Text.{same, _is_}
+use Rattle.token.specs.Tokens.{Token, letter, digit, every, oneToken, begun, under, ended, going, tokensAfter, tokens}
+use Rattle.part.specs.Grammar.{part}
 use Rattle.microtext.specs.Line.{cut, divided, lastPart, parts}
-use Rattle.microtext.specs.declared.Part.{Part}
+use Rattle.part.specs.declared.Part.{Part}
 use Rattle.word.proofs.Tests.{both}
-use Rattle.microtext.proofs.Scan.{every-more}
+use Rattle.token.proofs.Scan.{every-more}
 use Rattle.microtext.proofs.Whole.{divided-some}
 use Rattle.way_back.proofs.Printed.{undivided}
 

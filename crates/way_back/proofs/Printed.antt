@@ -8,15 +8,15 @@ use borrow.Author.Tests.{eqb-true, ltb-true, lt-ltb}
 use lib.Dec.{ltb, eqb}
 use lib.ListN.{length}
 use Rattle.microword.specs.declared.Fields.{Fields}
-use Rattle.microtext.specs.Text.{bytes, same, _is_}
-use Rattle.microtext.specs.Tokens.{Token, every, oneToken, begun, under, ended, going, tokensAfter, tokens}
-use Rattle.microtext.specs.Grammar.{place, register, destination, number, operation, formula, last, front, bare, jump, test, part}
+use Rattle.token.specs.Text.{bytes, same, _is_}
+use Rattle.token.specs.Tokens.{Token, every, oneToken, begun, under, ended, going, tokensAfter, tokens}
+use Rattle.part.specs.Grammar.{place, register, destination, number, operation, formula, last, front, bare, jump, test, part}
 use Rattle.microtext.specs.Listing as listing
 use Rattle.microtext.specs.Listing.{decimal, formulas, jumps}
-use Rattle.microtext.specs.declared.Part.{Part}
-use Rattle.microtext.specs.declared.Part.the-variants.{Operation, Transfer, Jump, Foreign}
+use Rattle.part.specs.declared.Part.{Part}
+use Rattle.part.specs.declared.Part.the-variants.{Operation, Transfer, Jump, Foreign}
 use Rattle.word.proofs.Tests.{both, all, all-at}
-use Rattle.microtext.proofs.Packed.{same-equal}
+use Rattle.token.proofs.Packed.{same-equal}
 
 -- No token is a semicolon; no byte is 10.
 unfoldable pub undivided : List Token → Bool

@@ -10,14 +10,14 @@ use lib.ListN.{length}
 use Rattle.microword.specs.Microword.{fieldsOf, wordOf, badWord, idle, binary, normalFields, normalForm}
 use Rattle.microword.specs.declared.Fields.{Fields}
 use Rattle.microword.proofs.Laws.{Within, fields-within}
-use Rattle.microtext.specs.Text.{bytes, same}
-use Rattle.microtext.specs.Tokens.{Token, tokens}
-use Rattle.microtext.specs.Grammar.{number, part}
+use Rattle.token.specs.Text.{bytes, same}
+use Rattle.token.specs.Tokens.{Token, tokens}
+use Rattle.part.specs.Grammar.{number, part}
 use Rattle.microtext.specs.Line.{someForeign, add, nothing, given, clash, settled, meaning, divided, parts, behindNumber, numbered, line}
 use Rattle.microtext.specs.Listing as listing
 use Rattle.microtext.specs.Listing.{decimal}
-use Rattle.microtext.specs.declared.Part.{Part}
-use Rattle.microtext.specs.declared.Part.the-variants.{Operation, Transfer, Jump}
+use Rattle.part.specs.declared.Part.{Part}
+use Rattle.part.specs.declared.Part.the-variants.{Operation, Transfer, Jump}
 use Rattle.microtext.specs.declared.Meaning.the-variants.{Word}
 use Rattle.assembler.proofs.Normal.{neither}
 use Rattle.way_back.proofs.Printed.{Back, second, target, operation-back, rd-back, wr-back, jump-back, number-back, undivided}

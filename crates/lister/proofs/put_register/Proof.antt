@@ -2,7 +2,7 @@
 use native.Mathlib.Omega.{arith}
 use mathlib.Core.Path.{refl}
 use borrow.Author.Needs.{needs}
-use Rattle.microtext.specs.Grammar.{registers}
+use Rattle.part.specs.Grammar.{registers}
 use Rattle.lister.proofs.Laws.{cut, inside, entry-fits, entry-put}
 use Rattle.lister.proofs.put_register.Statement.{statement}
 use Rattle.lister.proofs.put_register.Tie as tie

@@ -27,15 +27,15 @@ enum-told c = search needs
 
 returns : tie.Need-returns
 unfolding add
-returns c = simp (c .before .before .part .given .1, c .before .known-told .given .1, ← c .add-operation .ensures)
+returns c = simp (c .before .before .part .given .1, ← c .add-operation .ensures)
 
 returns-2 : tie.Need-returns-2
 unfolding add
-returns-2 c = simp (c .before .before .part2 .given .1, c .before .known-told2 .given .1, ← c .add-transfer .ensures)
+returns-2 c = simp (c .before .before .part2 .given .1, ← c .add-transfer .ensures)
 
 returns-3 : tie.Need-returns-3
 unfolding add
-returns-3 c = simp (c .before .before .part3 .given .1, c .before .known-told3 .given .1, ← c .add-jump .ensures)
+returns-3 c = simp (c .before .before .part3 .given .1, ← c .add-jump .ensures)
 
 returns-4 : tie.Need-returns-4
 unfolding add

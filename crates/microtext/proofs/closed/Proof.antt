@@ -3,8 +3,8 @@ use borrow.Author.Needs.{needs}
 use mathlib.Core.Path.{_≡_, refl, sym, _∙_}
 use mathlib.Core.Bool.{true, false≢true}
 use Rattle.microtext.specs.Line.{foreign, add}
-use Rattle.microtext.specs.declared.Part.{Part}
-use Rattle.microtext.specs.declared.Part.the-variants.{Operation, Transfer, Jump, Foreign}
+use Rattle.part.specs.declared.Part.{Part}
+use Rattle.part.specs.declared.Part.the-variants.{Operation, Transfer, Jump, Foreign}
 use Rattle.microtext.specs.declared.Given.{Given}
 use Rattle.microtext.specs.Progress.{closed}
 use Rattle.microtext.proofs.closed.Statement.{statement}

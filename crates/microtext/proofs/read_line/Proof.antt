@@ -3,7 +3,7 @@ use denote.Ref.{now}
 use mathlib.Core.Path.{sym, _∙_}
 use native.Mathlib.Omega.{arith}
 use borrow.Author.Needs.{needs}
-use Rattle.microtext.proofs.Packed.{bytes-all}
+use Rattle.token.proofs.Bytes.{bytes-all}
 use Rattle.microtext.proofs.Whole.{extra-line, wrong-number, no-colon, with-parts}
 use Rattle.microtext.proofs.read_line.Statement.{statement}
 use Rattle.microtext.proofs.read_line.Tie as tie

@@ -1,0 +1,4 @@
+pub mod Words
+pub mod Formula
+pub mod Course
+pub mod Laws

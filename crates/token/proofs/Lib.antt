@@ -1,0 +1,6 @@
+pub mod Bytes
+pub mod Packed
+pub mod Split
+pub mod Scan
+pub mod Next
+pub mod Laws
