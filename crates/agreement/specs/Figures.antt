@@ -7,7 +7,7 @@ use Rattle.microtext.specs.Line.{line}
 use Rattle.microtext.specs.declared.Meaning.{Meaning}
 use Rattle.microtext.specs.declared.Meaning.the-variants.{Word, Refused}
 use Rattle.datapath.specs.declared.Half.the-variants.{Nothing}
-use Rattle.engine.specs.Cycle.{register}
+use Rattle.cycle.specs.Cycle.{register}
 use Rattle.engine.specs.Run.{Ended, cycles}
 use Rattle.printed.specs.Printed.{printed}
 use Rattle.instruction.specs.Instruction.{State as Cpu, instruct}

@@ -7,8 +7,8 @@ use borrow.Author.Tests.{lt-ltb}
 use lib.Dec.{ltb, eqb}
 use Rattle.datapath.specs.declared.Half.{Half}
 use Rattle.datapath.specs.declared.Half.the-variants.{Nothing, Read, Write}
-use Rattle.engine.specs.Cycle.{State, cycle}
-use Rattle.engine.specs.Run.{Said, Ended, saying, onwards, plus, cycles, refusal, begun, runs, endedBy, Press, press, pressedBy}
+use Rattle.cycle.specs.Cycle.{State}
+use Rattle.engine.specs.Run.{Said, Ended, saying, cycle, onwards, plus, cycles, refusal, begun, runs, endedBy, Press, press, pressedBy}
 use Rattle.engine.specs.declared.Machine.{Machine}
 use Rattle.engine.specs.declared.Pressed.{Pressed}
 use Rattle.engine.specs.declared.Ran.{Ran}
