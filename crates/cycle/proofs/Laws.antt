@@ -55,20 +55,6 @@ module _ (word : ℕ) (input : List ℕ) (s : State) {b : Beginning} (first : be
       subst (λ (x : Beginning). set (x .registers) (x .fields .s) (x .stood) ≡ s .registers) first
       (restored m (result m (s .registers)) (s .registers) (eqb (m .hs) 1) refl)
 
-  -- Without RD and WR nothing is transferred, and RDM is what stands there.
-  pub rests : (not (eqb (b .fields .rd) 1) && not (eqb (b .fields .wr) 1)) ≡ true
-      → cycleOf word input s
-      ≡ record { next = record { line = b .next; registers = b .registers; half = Nothing; place = s .place; count = s .count; memory = s .memory; log = s .log }; full = false }
-  unfolding settled transfer transferred waits
-  rests e =
-      let n : (eqb (b .fields .rd) 1 ≡ false) × (eqb (b .fields .wr) 1 ≡ false) = both (eqb (b .fields .rd) 1) (eqb (b .fields .wr) 1) e in
-      rw (goes-on, n .0, n .1, set-getD (b .registers) 7 0)
-    where
-      both : (p q : Bool) → (not p && not q) ≡ true → (p ≡ false) × (q ≡ false)
-      both true q e = absurd (true≢false (sym e))
-      both false true e = absurd (true≢false (sym e))
-      both false false e = (refl, refl)
-
   module _ {r : Moved} {memory log : List ℕ} (moves : transferred (eqb (b .fields .rd) 1) (eqb (b .fields .wr) 1) input (s .half) (found (b .registers) s) ≡ moved r memory log) where
     -- Without RD the transfer's RDM is the one that stands there.
     same-rdm : (rd : Bool) → eqb (b .fields .rd) 1 ≡ rd → cond rd (set (b .registers) 7 (r .rdm)) (b .registers) ≡ set (b .registers) 7 (r .rdm)
@@ -92,6 +78,20 @@ module _ (word : ℕ) (input : List ℕ) (s : State) {b : Beginning} (first : be
         let e : leftIn (moved r memory log) ≡ record { memory = s .memory; log = s .log; count = s .count; full = true } =
         rw moves at (transfer-refused (eqb (b .fields .rd) 1) (eqb (b .fields .wr) 1) input (s .half) (found (b .registers) s) (ap (λ (x : Transfer). x .full) moves ∙ f)) in
         rw (goes-on, moves, f, put-back, ap (λ (x : Left). x .memory) e, ap (λ (x : Left). x .log) e)
+
+  -- Without RD and WR nothing is transferred, and RDM is what stands there.
+  pub rests : (not (eqb (b .fields .rd) 1) && not (eqb (b .fields .wr) 1)) ≡ true
+      → cycleOf word input s
+      ≡ record { next = record { line = b .next; registers = b .registers; half = Nothing; place = s .place; count = s .count; memory = s .memory; log = s .log }; full = false }
+  unfolding settled transfer transferred waits
+  rests e =
+      let n : (eqb (b .fields .rd) 1 ≡ false) × (eqb (b .fields .wr) 1 ≡ false) = both (eqb (b .fields .rd) 1) (eqb (b .fields .wr) 1) e in
+      rw (goes-on, n .0, n .1, set-getD (b .registers) 7 0)
+    where
+      both : (p q : Bool) → (not p && not q) ≡ true → (p ≡ false) × (q ≡ false)
+      both true q e = absurd (true≢false (sym e))
+      both false true e = absurd (true≢false (sym e))
+      both false false e = (refl, refl)
 
 -- What holds before a cycle and after what its control word drives holds after the cycle.
 pub settled-keeps : (P : State → Type 0) (s : State) (c : Cycled) → P s → P (c .next) → P (settled s c .next)
