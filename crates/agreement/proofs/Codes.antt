@@ -16,7 +16,7 @@ use Rattle.datapath.specs.declared.Half.the-variants.{Nothing}
 use Rattle.datapath.specs.Result.{alu, both, jumps, keeps}
 use Rattle.datapath.specs.Transfer.{waits, completedRead, completedWrite, reads, writes, transferred}
 use Rattle.microword.specs.Microword.{fieldsOf}
-use Rattle.engine.specs.Cycle.{State, Cycled, result, stored, transfer, target, nextLine, driven}
+use Rattle.cycle.specs.Cycle.{State, Cycled, result, stored, transfer, target, nextLine, driven}
 use Rattle.instruction.specs.Instruction.{State as Cpu, Act, at, sets, writes as sends, gains, jumps as goes, action}
 use Rattle.instruction.proofs.Laws.{Each, none, _also_}
 use Rattle.printed.specs.Printed.{printed}

@@ -6,7 +6,7 @@ use Rattle.bus.specs.Ports.{nextInput, readAt, goes, logged, sent, writeAt}
 use Rattle.datapath.specs.Result.{alu, both, keeps, jumps as branches}
 use Rattle.datapath.specs.Transfer.{waits, completedRead, completedWrite, reads, writes as sending, transferred}
 use Rattle.microword.specs.Microword.{fieldsOf, wordOf}
-use Rattle.engine.specs.Cycle.{result, stored, transfer, target, nextLine, driven, settled as left, cycle}
+use Rattle.cycle.specs.Cycle.{result, stored, transfer, target, nextLine, driven, settled as left, cycleOf}
 use Rattle.engine.specs.Run.{plus, onwards, cycles}
 use Rattle.printed.specs.Printed.{printed}
 use Rattle.token.specs.Text.{same}
@@ -21,5 +21,5 @@ unfolding figures line numbered behindNumber meaning settled clash given add som
 figures-hold = refl
 
 pub stop-holds : stop ≡ 15 ∷ 11 ∷ 2 ∷ 5 ∷ 5 ∷ []
-unfolding stop cycles onwards plus cycle left driven transfer transferred waits completedRead completedWrite reads sending stored result target nextLine branches alu both keeps fieldsOf printed writeAt sent goes logged readAt nextInput
+unfolding stop cycles onwards plus cycleOf left driven transfer transferred waits completedRead completedWrite reads sending stored result target nextLine branches alu both keeps fieldsOf printed writeAt sent goes logged readAt nextInput
 stop-holds = refl

@@ -5,7 +5,7 @@ use mathlib.Core.Path.{_≡_, ap, sym, _∙_}
 use mathlib.Core.List.{List}
 use native.Mathlib.Omega.{arith}
 use borrow.Author.Tests.{le-ltb, eq-eqb}
-use Rattle.engine.specs.Cycle.{State, register}
+use Rattle.cycle.specs.Cycle.{State, register}
 use Rattle.engine.specs.Run.{says, refusal, Ended, plus, begun, cycles, runs}
 use Rattle.engine.proofs.Runs.{chained}
 use Rattle.instruction.specs.Instruction.{acted}

@@ -11,8 +11,8 @@ use Rattle.datapath.specs.declared.Half.{Half}
 use Rattle.datapath.specs.Result.{alu, jumps, keeps}
 use Rattle.datapath.specs.Transfer.{waits, completedRead, reads, transferred}
 use Rattle.microword.specs.Microword.{fieldsOf}
-use Rattle.engine.specs.Cycle.{State, result, stored, transfer, target, driven, settled, cycle}
-use Rattle.engine.specs.Run.{plus, cycles}
+use Rattle.cycle.specs.Cycle.{State, result, stored, transfer, target, driven, settled, cycleOf}
+use Rattle.engine.specs.Run.{cycle, plus, cycles}
 use Rattle.engine.proofs.Runs.{chained}
 use Rattle.instruction.specs.Instruction.{State as Cpu, Act, at, fetched, past, acted, instruct}
 use Rattle.instruction.proofs.Laws.{Each, none, _also_, each}
@@ -85,7 +85,7 @@ shaped s r = made _ _ _ _ _ _ s (r .line) (spelt (s .registers) (r .eight) (r .m
 
 -- A cycle that meets a full log leaves the state before it.
 refuses : (input : List ℕ) (s : State) → driven (fieldsAt printed s) input s .full ≡ true → cycle printed input s ≡ record { next = s; full = true }
-unfolding cycle settled
+unfolding cycleOf settled
 refuses input s t = rw t
 
 stopped : (input : List ℕ) (s : State) (a : Act) → Ends input s a → a .full ≡ true → Stopped input s (a .cycles)

@@ -5,7 +5,7 @@ use mathlib.Core.List.{List}
 use mathlib.Core.Bool.{Bool, true, false}
 use native.Mathlib.Omega.{arith}
 use native.Mathlib.Nat.{add-zero}
-use Rattle.engine.specs.Cycle.{State}
+use Rattle.cycle.specs.Cycle.{State}
 use Rattle.engine.specs.Run.{says, plus, onwards, cycles}
 use Rattle.engine.proofs.Runs.{chained}
 use Rattle.instruction.specs.Instruction.{State as Cpu, Act, instruct}

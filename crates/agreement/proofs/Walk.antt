@@ -11,8 +11,8 @@ use Rattle.datapath.specs.Result.{negative, isZero, jumps}
 use Rattle.datapath.proofs.Laws.{jumps-by}
 use Rattle.microword.specs.declared.Fields.{Fields}
 use Rattle.microword.specs.Microword.{fieldsOf}
-use Rattle.engine.specs.Cycle.{State, Cycled, controlWord, result, stored, transfer, target, nextLine, arrived, driven, settled, cycle}
-use Rattle.engine.specs.Run.{plus, onwards, cycles}
+use Rattle.cycle.specs.Cycle.{State, Cycled, result, stored, transfer, target, nextLine, arrived, driven, settled, cycleOf}
+use Rattle.engine.specs.Run.{controlWord, plus, onwards, cycles}
 use Rattle.agreement.specs.Demand.{ran, strays}
 
 -- Whether a word tests its result, and what the test says.
@@ -92,7 +92,7 @@ cleared false false r e = (refl, refl, e)
 
 module _ (store input : List ℕ) (s : State) (t : Cycled) (is : driven (fieldsAt store s) input s ≡ t) (runs : t .full ≡ false) where
   pub unrolled : (n : ℕ) → cycles store input (suc n) s ≡ plus 1 (cycles store input n (t .next))
-  unfolding cycles onwards cycle settled
+  unfolding cycles onwards cycleOf settled
   unrolled n = rw (is, runs)
 
   onward : (n : ℕ) (e : State) → eqb (t .next .line) 0 ≡ false → Leads store input n (t .next) e → Leads store input (suc n) s e

@@ -6,8 +6,8 @@ use mathlib.Core.List.{List}
 use lib.ListN.{length, getD}
 use lib.Dec.{eqb}
 use Rattle.datapath.specs.declared.Half.the-variants.{Nothing}
-use Rattle.engine.specs.Cycle.{State, register, cycle}
-use Rattle.engine.specs.Run.{Ended, says, refusal, cycles, runs}
+use Rattle.cycle.specs.Cycle.{State, register}
+use Rattle.engine.specs.Run.{Ended, says, refusal, cycle, cycles, runs}
 use Rattle.instruction.specs.Instruction.{State as Cpu, instruct, acted}
 use Rattle.interpreter.specs.Run.{Ended as Interpreted, runs as interpreted}
 use Rattle.printed.specs.Printed.{printed}

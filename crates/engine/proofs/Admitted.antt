@@ -22,9 +22,9 @@ use Rattle.datapath.proofs.Laws.{transfer-leaves}
 use Rattle.microword.specs.declared.Fields.{Fields}
 use Rattle.microword.specs.Microword.{fieldsOf, firstBad}
 use Rattle.microword.proofs.Laws.{fields-within}
-use Rattle.engine.specs.Cycle.{State, controlWord, register, result, stored, found, transfer, nextLine, driven, cycle}
-use Rattle.engine.specs.Run.{Said, says, refusal, plus, onwards, cycles}
-use Rattle.engine.proofs.Laws.{settled-keeps, target-within}
+use Rattle.cycle.specs.Cycle.{State, register, result, stored, found, transfer, nextLine, driven, cycleOf}
+use Rattle.cycle.proofs.Laws.{settled-keeps, target-within}
+use Rattle.engine.specs.Run.{Said, says, refusal, controlWord, cycle, plus, onwards, cycles}
 
 -- The facts behind "refusal 0".
 pub record Admitted (store input : List ℕ) (s : State) : Type 0 where
@@ -169,7 +169,7 @@ driven-admitted m store input s h a =
     cut n = omega arith
 
 cycle-admitted : (store input : List ℕ) (s : State) → Admitted store input s → Admitted store input (cycle store input s .next)
-unfolding cycle
+unfolding cycleOf
 cycle-admitted store input s a =
     let m : Fields = fieldsOf (controlWord store (s .line)) in
     settled-keeps (Admitted store input) s (driven m input s) a (driven-admitted m store input s (fields-within (controlWord store (s .line)) .end) a)

@@ -1,7 +1,7 @@
 -- Laws of runs: a run in two parts, what a run does to memory and log, and no second answer.
 use Prim.Native.Nat.{ℕ, zero, suc, _+_, _-_, _≤_}
 use mathlib.Core.Path.{_≡_, refl, sym, _∙_, ap}
-use mathlib.Core.Bool.{Bool, true, false, cond, true≢false}
+use mathlib.Core.Bool.{Bool, true, false, cond}
 use mathlib.Core.List.{List, [], _++_}
 use native.Mathlib.Nat.{zero-add, suc-add}
 use native.Mathlib.Omega.{arith}
@@ -11,12 +11,9 @@ use lib.Dec.{eqb}
 use Rattle.bus.specs.Ports.{Left}
 use Rattle.bus.specs.Log.{Sent, after, toLog, room, Took}
 use Rattle.bus.proofs.Laws.{kept, after-append, after-ports, to-log-append}
-use Rattle.datapath.specs.Transfer.{sends}
-use Rattle.datapath.proofs.Laws.{transfer-leaves, sends-fit}
-use Rattle.microword.specs.declared.Fields.{Fields}
-use Rattle.microword.specs.Microword.{fieldsOf}
-use Rattle.engine.specs.Cycle.{State, Cycled, controlWord, result, stored, found, transfer, driven, settled, cycle, written}
-use Rattle.engine.specs.Run.{Said, says, saying, Ended, plus, onwards, cycles, writes, endedBy}
+use Rattle.cycle.specs.Cycle.{State, writtenBy}
+use Rattle.cycle.proofs.Writes.{held, stays, cycle-writes, cycle-fits}
+use Rattle.engine.specs.Run.{Said, says, saying, Ended, controlWord, cycle, plus, onwards, cycles, writes, endedBy}
 use Rattle.engine.specs.declared.Answer.{Answer}
 use Rattle.engine.specs.declared.Answer.the-variants.{Done, Sizes, Places, Ranges, BadWord, LogFull}
 use Rattle.engine.specs.declared.Machine.{Machine}
@@ -53,58 +50,19 @@ chained store input (suc a) b s e p =
     rw suc-add
     (further (cycle store input s .full) a (cycle store input s .next) e _ _ _ (chained store input a b (cycle store input s .next) e) p)
 
--- Memory and log of a state.
-abbrev pub held : State → Left
-held s = record { memory = s .memory; log = s .log; count = s .count; full = false }
-
--- A cycle that was not refused is what its word drives.
-unrefused : (s : State) (c : Cycled) → settled s c .full ≡ false → (settled s c ≡ c) × (c .full ≡ false)
-unfolding settled
-unrefused s c f = by (c .full) refl f
-  where
-    by : (full : Bool) → c .full ≡ full → settled s c .full ≡ false → (settled s c ≡ c) × (c .full ≡ false)
-    by true e f = absurd (true≢false (rw e at f))
-    by false e f = (rw e, e)
-
--- A cycle that was refused is the state before it.
-stays : (s : State) (c : Cycled) → settled s c .full ≡ true → settled s c .next ≡ s
-unfolding settled
-stays s c f = by (c .full) refl f
-  where
-    by : (full : Bool) → c .full ≡ full → cond (c .full) (record { next = s; full = true }) c .full ≡ true → cond full (record { next = s; full = true }) c .next ≡ s
-    by true e f = refl
-    by false e f = absurd (true≢false (sym (rw e at f)))
-
--- What one cycle does to memory and log is the write that it completes.
-driven-writes : (m : Fields) (input : List ℕ) (s : State) → driven m input s .full ≡ false
-    → held (driven m input s .next) ≡ after (sends (eqb (m .rd) 1) (eqb (m .wr) 1) (s .half) (found (stored m (result m (s .registers)) (s .registers)) s)) (held s)
-unfolding driven transfer
-driven-writes m input s f =
-    let at = found (stored m (result m (s .registers)) (s .registers)) s in
-    ap (λ (x : Bool). record { memory = driven m input s .next .memory; log = driven m input s .next .log; count = driven m input s .next .count; full = x }) (sym f)
-    ∙ transfer-leaves (eqb (m .rd) 1) (eqb (m .wr) 1) input (s .half) at
-
-cycle-writes : (store input : List ℕ) (s : State) → cycle store input s .full ≡ false
-    → held (cycle store input s .next) ≡ after (written store input s) (held s)
-unfolding cycle written
-cycle-writes store input s f =
-    let m : Fields = fieldsOf (controlWord store (s .line)) in
-    let u = unrefused s (driven m input s) f in
-    rw (u .0) (driven-writes m input s (u .1))
-
 -- What a run does to memory and log is the writes that it completes.
 pub run-writes : (store input : List ℕ) (n : ℕ) (s : State) → held (cycles store input n s .state) ≡ after (writes store input n s) (held s)
-unfolding cycles writes after onwards plus cycle
+unfolding cycles writes after onwards plus
 run-writes store input zero s = refl
 run-writes store input (suc n) s = by (cycle store input s .full) refl (run-writes store input n (cycle store input s .next))
   where
     by : (full : Bool) → cycle store input s .full ≡ full
         → held (cycles store input n (cycle store input s .next) .state) ≡ after (writes store input n (cycle store input s .next)) (held (cycle store input s .next))
         → held (onwards full (cycle store input s .next) (cycles store input n (cycle store input s .next)) .state)
-        ≡ after (cond full [] (written store input s ++ writes store input n (cycle store input s .next))) (held s)
-    by true e rest = ap held (stays s (driven (fieldsOf (controlWord store (s .line))) input s) e)
+        ≡ after (cond full [] (writtenBy (controlWord store (s .line)) s ++ writes store input n (cycle store input s .next))) (held s)
+    by true e rest = ap held (stays (controlWord store (s .line)) input s e)
     by false e rest =
-        rest ∙ rw (cycle-writes store input s e) (sym (after-append (written store input s) (writes store input n (cycle store input s .next)) (held s)))
+        rest ∙ rw (cycle-writes (controlWord store (s .line)) input s e) (sym (after-append (writtenBy (controlWord store (s .line)) s) (writes store input n (cycle store input s .next)) (held s)))
 
 -- The words under the ports are never changed by a run.
 pub run-ports : (store input : List ℕ) (n : ℕ) (s : State) (place : ℕ) → 4092 ≤ place
@@ -113,20 +71,13 @@ run-ports store input n s place h =
     ap (λ (l : Left). getD (l .memory) place 0) (run-writes store input n s) ∙ after-ports (writes store input n s) (held s) place h
 
 -- There was room for every word that a run sent to the log.
-cycle-fits : (store input : List ℕ) (s : State) → cycle store input s .full ≡ false → length (toLog (written store input s)) ≤ room (held s)
-unfolding cycle written driven transfer
-cycle-fits store input s f =
-    let m : Fields = fieldsOf (controlWord store (s .line)) in
-    let u = unrefused s (driven m input s) f in
-    sends-fit (eqb (m .rd) 1) (eqb (m .wr) 1) input (s .half) (found (stored m (result m (s .registers)) (s .registers)) s) (u .1)
-
 run-fits : (store input : List ℕ) (n : ℕ) (s : State) → s .count ≤ length (s .log) → length (toLog (writes store input n s)) ≤ room (held s)
 unfolding writes toLog
 run-fits store input zero s h = omega arith
 run-fits store input (suc n) s h = by (cycle store input s .full) refl (run-fits store input n (cycle store input s .next))
   where
     first : List Sent
-    first = written store input s
+    first = writtenBy (controlWord store (s .line)) s
 
     next : State
     next = cycle store input s .next
@@ -135,9 +86,9 @@ run-fits store input (suc n) s h = by (cycle store input s .full) refl (run-fits
         → length (toLog (cond full [] (first ++ writes store input n next))) ≤ room (held s)
     by true e rest = omega arith
     by false e rest =
-        let t : Took (toLog first) (held s) (held next) = rw (cycle-writes store input s e) (kept first (held s) h) in
+        let t : Took (toLog first) (held s) (held next) = rw (cycle-writes (controlWord store (s .line)) input s e) (kept first (held s) h) in
         rw (to-log-append first (writes store input n next), length-append (toLog first) (toLog (writes store input n next)))
-        (omega (arith, t .left, cycle-fits store input s e, rest (t .within)))
+        (omega (arith, t .left, cycle-fits (controlWord store (s .line)) input s e, rest (t .within)))
 
 -- After a run the log is its former words followed, in order, by every word that the completed writes sent to 4094, and nothing else;
 -- the room past them is as found.

@@ -2,11 +2,11 @@
 use Prim.Native.Nat.{ℕ, zero, suc, _+_}
 use mathlib.Core.Bool.{Bool, true, false, cond, not, _||_}
 use mathlib.Core.List.{List, [], _++_}
-use lib.ListN.{length}
+use lib.ListN.{length, getD}
 use lib.Dec.{ltb, eqb}
 use Rattle.microword.specs.Microword.{firstBad}
 use Rattle.bus.specs.Log.{Sent}
-use Rattle.engine.specs.Cycle.{State, register, cycle, written}
+use Rattle.cycle.specs.Cycle.{State, Cycled, register, cycleOf, writtenBy}
 use Rattle.engine.specs.declared.Answer.{Answer}
 use Rattle.engine.specs.declared.Answer.the-variants.{Done, Sizes, Places, Ranges, BadWord, LogFull}
 use Rattle.engine.specs.declared.Machine.{Machine}
@@ -38,6 +38,14 @@ refusal store input s =
     (cond (ltb (firstBad store) 64) (record { number = 4; line = firstBad store })
     (says 0))))
 
+-- The control word at a line.
+abbrev pub controlWord : List ℕ → ℕ → ℕ
+controlWord store line = getD store line 0
+
+-- One cycle: that of the control word at the state's line.
+abbrev pub cycle : List ℕ → List ℕ → State → Cycled
+cycle store input s = cycleOf (controlWord store (s .line)) input s
+
 -- What a run comes to: the state, how many cycles it carried out, and its answer.
 pub record Ended : Type 0 where
   pub state : State
@@ -63,7 +71,7 @@ cycles store input (suc n) s =
 unfoldable pub writes : List ℕ → List ℕ → ℕ → State → List Sent
 writes store input zero s = []
 writes store input (suc n) s =
-    cond (cycle store input s .full) [] (written store input s ++ writes store input n (cycle store input s .next))
+    cond (cycle store input s .full) [] (writtenBy (controlWord store (s .line)) s ++ writes store input n (cycle store input s .next))
 
 -- Counts with refusals 1 to 4 are 0, and all is left as found.
 unfoldable pub begun : Said → List ℕ → List ℕ → ℕ → State → Ended

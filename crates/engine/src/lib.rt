@@ -1,21 +1,12 @@
-// The cycle engine for any control store: one cycle, a run, and the panel's press.
+// The cycle engine for any control store: a run of cycles, and the panel's press.
 ghost use mathlib.Core.Path.{_≡_};
-ghost use mathlib.Core.Bool.{cond, false};
-ghost use lib.Dec.{eqb};
-ghost use lib.ListN.{length, set};
-ghost use Rattle.engine.specs.Cycle.{result, stored, nextLine, cycle};
-ghost use Rattle.engine.specs.Run.{refusal, saying, cycles, runs, press, stateOf, endedBy, pressedBy};
-ghost use Rattle.datapath.specs.declared.Half.the-variants.{Nothing};
-ghost use Rattle.engine.specs.Standing.{standing, stepped};
+ghost use lib.ListN.{length};
 ghost use Prim.Native.Nat.{_<_};
+ghost use Rattle.engine.specs.Run.{refusal, saying, cycles, runs, press, stateOf, endedBy, pressedBy};
 use datapath::Half;
-use microword::Fields;
-use word::Address;
 use word::Line;
 
 const REM: usize = 6;
-
-const RDM: usize = 7;
 
 // The machine: its control line, its registers by number, what is half done, the input place and the log count.
 pub struct Machine {
@@ -46,118 +37,6 @@ pub struct Ran {
 pub struct Pressed {
     pub answer: Answer,
     pub machine: Machine,
-}
-
-// What a cycle leaves beside registers, memory and log, and whether its write met a full log.
-struct Stepped {
-    line: Line,
-    half: Half,
-    place: usize,
-    count: usize,
-    full: bool,
-}
-
-fn next_line(m: Fields, value: u16, line: Line) -> Line
-    requires { ⌜ m .end < 64 ⌝ }
-    ensures { λ r. ⌜ r .0 ≡ nextLine m value (line .0) ⌝ }
-{
-    if datapath::does_jump(m.sq, value) {
-        return Line(m.end as u8);
-    }
-    line.next()
-}
-
-// If HS, the value is stored to S.
-fn store_value(m: Fields, value: u16, registers: &mut [u16; 8])
-    requires { ⌜ m .s < 8 ⌝ }
-    ensures { λ _. ⌜ now (registers .exit) ≡ stored m value (now (registers .entry)) ⌝ }
-{
-    if m.hs == 1 {
-        let s = m.s as usize;
-        registers[s] = datapath::keep_in(m.s, value);
-    }
-}
-
-// Only a cycle with RD can change RDM by its transfer: the others need not touch it.
-fn arrive(rd: u32, word: u16, registers: &mut [u16; 8])
-    ensures { λ _. ⌜ now (registers .exit) ≡ cond (eqb rd 1) (set (now (registers .entry)) 7 word) (now (registers .entry)) ⌝ }
-{
-    if rd == 1 {
-        registers[RDM] = word;
-    }
-}
-
-// A cycle with neither RD nor WR leaves nothing half done.
-fn rest(line: Line, place: usize, count: usize) -> Stepped
-    ensures { λ r. ⌜ r ≡ record { line = line; half = Nothing; place = place; count = count; full = false } ⌝ }
-{
-    Stepped {
-        line,
-        half: Half::Nothing,
-        place,
-        count,
-        full: false,
-    }
-}
-
-// One cycle, in place; a refused one leaves everything as it was.
-fn step(
-    store: &[u32],
-    memory: &mut [u16],
-    input: &[u16],
-    log: &mut [u16],
-    registers: &mut [u16; 8],
-    line: Line,
-    half: Half,
-    place: usize,
-    count: usize,
-) -> Stepped
-    requires { ⌜ line .0 < length (now store) ⌝ }
-    ensures { λ r. ⌜ cycle (now (store .entry)) (now (input .entry)) (standing line half place count (now (registers .entry)) (now (memory .entry)) (now (log .entry))) ≡ stepped r (now (registers .exit)) (now (memory .exit)) (now (log .exit)) ⌝ }
-{
-    let k = line.0 as usize;
-    let m = microword::fields_of(store[k]);
-    let a = m.a as usize;
-    let b = m.b as usize;
-    let s = m.s as usize;
-    let value = datapath::compute(m.f, registers[a], registers[b]);
-    let next = next_line(m, value, line);
-    let old = registers[s];
-    store_value(m, value, registers);
-    if (m.rd != 1) & (m.wr != 1) {
-        return rest(next, place, count);
-    }
-    let moved = datapath::transfer(
-        m.rd == 1,
-        m.wr == 1,
-        half,
-        Address(registers[REM]),
-        registers[RDM],
-        memory,
-        input,
-        log,
-        place,
-        count,
-    );
-    if moved.full {
-        registers[s] = old;
-        return Stepped {
-            line,
-            half,
-            place,
-            count,
-            full: true,
-        };
-    }
-    arrive(m.rd, moved.rdm, registers);
-    let half = moved.half;
-    Stepped {
-        line: next,
-        half,
-        place: moved.place,
-        count: moved.count,
-        full: false,
-    }
 }
 
 // Refusals 1 to 4, in order, or nothing to refuse.
@@ -226,8 +105,9 @@ fn repeat(
     let mut count = machine.count;
     let mut done: u32 = 0;
     while done < n {
-        let t = step(
-            store,
+        let k = line.0 as usize;
+        let t = cycle::step(
+            store[k],
             memory,
             input,
             log,

@@ -4,8 +4,8 @@ use mathlib.Core.Path.{_≡_, refl, sym, _∙_, ap}
 use mathlib.Core.Bool.{Bool, true, false, cond}
 use mathlib.Core.List.{List}
 use lib.Dec.{eqb}
-use Rattle.engine.specs.Cycle.{State, cycle}
-use Rattle.engine.specs.Run.{Said, Ended, saying, onwards, plus, cycles, refusal, begun, runs, endedBy, Press, press, pressedBy}
+use Rattle.cycle.specs.Cycle.{State}
+use Rattle.engine.specs.Run.{Said, Ended, saying, cycle, onwards, plus, cycles, refusal, begun, runs, endedBy, Press, press, pressedBy}
 use Rattle.engine.specs.declared.Pressed.{Pressed}
 use Rattle.engine.specs.declared.Ran.{Ran}
 use Rattle.assembler.specs.Assembled.{Outcome}

@@ -8,8 +8,8 @@ use native.Mathlib.Omega.{arith}
 use borrow.Author.Tests.{lt-ltb, le-ltb, eq-eqb, ne-eqb}
 use lib.Dec.{ltb, eqb}
 use lib.ListN.{length, getD}
-use Rattle.engine.specs.Cycle.{State, cycle}
-use Rattle.engine.specs.Run.{Ended, onwards, plus, cycles, refusal, begun, runs, stateOf}
+use Rattle.cycle.specs.Cycle.{State}
+use Rattle.engine.specs.Run.{Ended, cycle, onwards, plus, cycles, refusal, begun, runs, stateOf}
 use Rattle.instruction.specs.Instruction.{State as Interpreter·State, instruct, stateOf as Interpreter·stateOf}
 use Rattle.interpreter.specs.Run.{
   Ended as Interpreter·Ended,

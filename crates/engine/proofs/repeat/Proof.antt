@@ -8,10 +8,11 @@ use Prim.Native.Nat.{ℕ, _≤_, _<_, _-_}
 use lib.ListN.{length}
 use Rattle.datapath.specs.declared.Half.{Half}
 use Rattle.word.specs.declared.Line.{Line}
-use Rattle.engine.specs.Cycle.{State}
+use Rattle.cycle.specs.Cycle.{State}
 use Rattle.engine.specs.Run.{cycles, plus, saying}
-use Rattle.engine.specs.Standing.{standing}
-use Rattle.engine.proofs.Laws.{plus-none, goes-on, stops, ends, line-within}
+use Rattle.cycle.specs.Standing.{standing}
+use Rattle.cycle.proofs.Laws.{line-within}
+use Rattle.engine.proofs.Laws.{plus-none, goes-on, stops, ends}
 use Rattle.engine.proofs.repeat.Statement.{statement}
 use Rattle.engine.proofs.repeat.Tie as tie
 
@@ -33,21 +34,30 @@ abbrev μ-loop : tie.MeasureT-loop
 loop-holds : tie.Need-loop-holds Inv-loop μ-loop
 loop-holds c = record { within = omega arith; inside = c .before .before .before .before .before .before .pre .1; words = refl; room = refl; same = rw (plus-none, sub-zero) }
 
+cast-k : tie.Need-cast-k Inv-loop μ-loop
+cast-k c = search needs
+
+mul-step : tie.Need-mul-step Inv-loop μ-loop
+mul-step c = search needs
+
+shared-slice-read-step : tie.Need-shared-slice-read-step Inv-loop μ-loop
+shared-slice-read-step c = rw (c .before .before .before .before .before .before .before .before .before .before .pre .0) (c .before .before .before .loop .inv .inside)
+
 step-requires : tie.Need-step-requires Inv-loop μ-loop
-step-requires c κs = rw (c .before .before .before .before .before .before .before .before .before .before .before .pre .0) (c .before .before .before .before .loop .inv .inside)
+step-requires c κs = search needs
 
 report-requires : tie.Need-report-requires Inv-loop μ-loop
 report-requires c κs = search needs
 
 same-length : tie.Need-same-length Inv-loop μ-loop
-same-length c = c .before .before .before .before .before .before .before .step .kept .1 .0 ∙ c .before .before .before .before .before .before .before .before .before .before .before .before .loop .inv .words
+same-length c = c .before .before .before .before .before .before .before .step .kept .1 .0 ∙ c .before .before .before .before .before .before .before .before .before .before .before .before .before .before .loop .inv .words
 
 same-length-2 : tie.Need-same-length-2 Inv-loop μ-loop
-same-length-2 c = c .before .before .before .before .before .before .before .step .kept .1 .1 .1 .0 ∙ c .before .before .before .before .before .before .before .before .before .before .before .before .loop .inv .room
+same-length-2 c = c .before .before .before .before .before .before .before .step .kept .1 .1 .1 .0 ∙ c .before .before .before .before .before .before .before .before .before .before .before .before .before .before .loop .inv .room
 
 returns : tie.Need-returns Inv-loop μ-loop
 unfolding saying
-returns c = rw (c .report .ensures) (c .before .before .before .before .before .before .before .before .before .before .before .before .loop .inv .same ∙ stops _ _ _ (c .before .before .before .before .before .before .before .before .before .before .before .loop-test .taken) (c .before .before .before .before .before .before .before .step .ensures) (c .before .if1 .taken))
+returns c = rw (c .report .ensures) (c .before .before .before .before .before .before .before .before .before .before .before .before .before .before .loop .inv .same ∙ stops _ _ _ (c .before .before .before .before .before .before .before .before .before .before .before .before .before .loop-test .taken) (c .before .before .before .before .before .before .before .step .ensures) refl (c .before .if1 .taken))
 
 add-done : tie.Need-add-done Inv-loop μ-loop
 add-done c = omega arith
@@ -58,10 +68,10 @@ loop-less c = omega arith
 loop-again : tie.Need-loop-again Inv-loop μ-loop
 loop-again c = record {
   within = omega arith;
-  inside = line-within _ _ _ (c .before .before .before .before .before .before .before .before .before .before .before .loop .inv .inside) (c .before .before .before .before .before .before .step .ensures);
-  words = c .before .before .before .before .before .before .step .kept .1 .0 ∙ c .before .before .before .before .before .before .before .before .before .before .before .loop .inv .words;
-  room = c .before .before .before .before .before .before .step .kept .1 .1 .1 .0 ∙ c .before .before .before .before .before .before .before .before .before .before .before .loop .inv .room;
-  same = c .before .before .before .before .before .before .before .before .before .before .before .loop .inv .same ∙ goes-on _ _ _ (c .before .before .before .before .before .before .before .before .before .before .loop-test .taken) (c .before .before .before .before .before .before .step .ensures) (c .if1 .left);
+  inside = line-within _ _ _ (c .before .before .before .before .before .before .before .before .before .before .before .before .before .loop .inv .inside) (c .before .before .before .before .before .before .step .ensures);
+  words = c .before .before .before .before .before .before .step .kept .1 .0 ∙ c .before .before .before .before .before .before .before .before .before .before .before .before .before .loop .inv .words;
+  room = c .before .before .before .before .before .before .step .kept .1 .1 .1 .0 ∙ c .before .before .before .before .before .before .before .before .before .before .before .before .before .loop .inv .room;
+  same = c .before .before .before .before .before .before .before .before .before .before .before .before .before .loop .inv .same ∙ goes-on _ _ _ (c .before .before .before .before .before .before .before .before .before .before .before .before .loop-test .taken) (c .before .before .before .before .before .before .step .ensures) refl (c .if1 .left);
 }
 
 report-requires-2 : tie.Need-report-requires-2 Inv-loop μ-loop
@@ -84,6 +94,9 @@ repeat-spec =
     Inv-loop
     μ-loop
     loop-holds
+    cast-k
+    mul-step
+    shared-slice-read-step
     step-requires
     report-requires
     same-length

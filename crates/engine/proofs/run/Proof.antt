@@ -6,7 +6,7 @@ use types.Run.{OneOf, miss}
 use Prim.Native.Nat.{ℕ}
 use borrow.Author.Needs.{needs}
 use Rattle.engine.specs.declared.Answer.{Answer}
-use Rattle.engine.specs.Cycle.{State}
+use Rattle.cycle.specs.Cycle.{State}
 use Rattle.engine.specs.declared.Answer.the-variants.{Done, Sizes, Places, Ranges, BadWord, LogFull}
 use Rattle.engine.proofs.Answer as AnswerT
 use Rattle.engine.specs.Run.{refusal, runs, begun, saying}

@@ -1,9 +1,9 @@
 -- `next_line` goes to END where SQ says so, else to the line after this one.
 use mathlib.Core.Path.{ap}
 use borrow.Author.Needs.{needs}
-use Rattle.engine.specs.Cycle.{nextLine, target}
-use Rattle.engine.proofs.next_line.Statement.{statement}
-use Rattle.engine.proofs.next_line.Tie as tie
+use Rattle.cycle.specs.Cycle.{nextLine, target}
+use Rattle.cycle.proofs.next_line.Statement.{statement}
+use Rattle.cycle.proofs.next_line.Tie as tie
 
 does-jump-requires : tie.Need-does-jump-requires
 does-jump-requires c κs = search needs

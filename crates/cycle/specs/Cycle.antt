@@ -1,4 +1,4 @@
--- One cycle of the engine, for any control store (01, One cycle, in order).
+-- One cycle of the machine, driven by any control word (01, One cycle, in order).
 use Prim.Native.Nat.{ℕ}
 use mathlib.Core.Bool.{Bool, true, cond}
 use mathlib.Core.List.{List}
@@ -26,10 +26,6 @@ pub record State : Type 0 where
 -- Registers, by number: 0 CP, 1 AC, 2 PP, 3 RI, 4 RT, 5 MASC, 6 REM, 7 RDM.
 abbrev pub register : ℕ → State → ℕ
 register number s = getD (s .registers) number 0
-
--- The control word at a line.
-abbrev pub controlWord : List ℕ → ℕ → ℕ
-controlWord store line = getD store line 0
 
 -- Read A and B from the registers as they stood; compute.
 unfoldable pub result : Fields → List ℕ → ℕ
@@ -96,11 +92,12 @@ driven m input s =
 unfoldable pub settled : State → Cycled → Cycled
 settled s c = cond (c .full) (record { next = s; full = true }) c
 
-unfoldable pub cycle : List ℕ → List ℕ → State → Cycled
-cycle store input s = settled s (driven (fieldsOf (controlWord store (s .line))) input s)
+-- The cycle of a control word.
+unfoldable pub cycleOf : ℕ → List ℕ → State → Cycled
+cycleOf word input s = settled s (driven (fieldsOf word) input s)
 
--- The write that a cycle completes, if any.
-unfoldable pub written : List ℕ → List ℕ → State → List Sent
-written store input s =
-    let m : Fields = fieldsOf (controlWord store (s .line)) in
+-- The write that it completes, if any.
+unfoldable pub writtenBy : ℕ → State → List Sent
+writtenBy word s =
+    let m : Fields = fieldsOf word in
     sends (eqb (m .rd) 1) (eqb (m .wr) 1) (s .half) (found (stored m (result m (s .registers)) (s .registers)) s)

@@ -1,9 +1,9 @@
 -- `store_value` stores if HS is 1.
 use borrow.Author.Tests.{eq-eqb, ne-eqb}
 use borrow.Author.Needs.{needs}
-use Rattle.engine.specs.Cycle.{stored}
-use Rattle.engine.proofs.store_value.Statement.{statement}
-use Rattle.engine.proofs.store_value.Tie as tie
+use Rattle.cycle.specs.Cycle.{stored}
+use Rattle.cycle.proofs.store_value.Statement.{statement}
+use Rattle.cycle.proofs.store_value.Tie as tie
 
 cast-s : tie.Need-cast-s
 cast-s c = search needs

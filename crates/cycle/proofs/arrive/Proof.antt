@@ -1,8 +1,8 @@
 -- `arrive` writes RDM only for a cycle with RD.
 use borrow.Author.Tests.{eq-eqb, ne-eqb}
 use borrow.Author.Needs.{needs}
-use Rattle.engine.proofs.arrive.Statement.{statement}
-use Rattle.engine.proofs.arrive.Tie as tie
+use Rattle.cycle.proofs.arrive.Statement.{statement}
+use Rattle.cycle.proofs.arrive.Tie as tie
 
 element-write-registers : tie.Need-element-write-registers
 element-write-registers c = search needs

@@ -10,7 +10,7 @@ use Rattle.datapath.specs.Result.{alu, negative, isZero, jumps, keeps}
 use Rattle.microword.specs.declared.Fields.{Fields}
 use Rattle.microword.specs.Microword.{fieldsOf, idle, binary, normalFields, normalForm}
 use Rattle.microword.proofs.Laws.{fields-within, normal-fields}
-use Rattle.engine.specs.Cycle.{State, result, stored, transfer, target, nextLine, driven}
+use Rattle.cycle.specs.Cycle.{State, result, stored, transfer, target, nextLine, driven, cycleOf}
 
 -- F other than 3, 4 and 5 does not ask for B.
 unary : (f a b b′ : ℕ) → (eqb f 3 || eqb f 4 || eqb f 5) ≡ false → alu f a b ≡ alu f a b′
@@ -97,5 +97,6 @@ same-driven m h input s quiet q =
     goes true q = idle-line m q _ _ (s .line)
     goes false q = rw (same-result m (s .registers) q)
 
-pub same-cycle : (w : ℕ) (input : List ℕ) (s : State) → driven (fieldsOf (normalForm w)) input s ≡ driven (fieldsOf w) input s
-same-cycle w input s = rw (normal-fields w) (same-driven (fieldsOf w) (fields-within w .hs) input s (idle (fieldsOf w)) refl)
+pub same-cycle : (w : ℕ) (input : List ℕ) (s : State) → cycleOf (normalForm w) input s ≡ cycleOf w input s
+unfolding cycleOf
+same-cycle w input s = rw (normal-fields w, same-driven (fieldsOf w) (fields-within w .hs) input s (idle (fieldsOf w)) refl)

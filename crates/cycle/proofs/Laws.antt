@@ -1,0 +1,116 @@
+-- Laws of a cycle: what it comes to from its store on, what a refused one leaves, where it ends, and no second answer.
+use Prim.Native.Nat.{ℕ, _+_, _<_}
+use mathlib.Core.Path.{_≡_, refl, sym, _∙_, ap, subst}
+use mathlib.Core.Bool.{Bool, true, false, cond, not, _&&_, true≢false}
+use mathlib.Core.List.{List}
+use lib.ListN.{getD, set}
+use lib.Seq.{set-set, set-getD}
+use lib.Dec.{eqb}
+use Rattle.datapath.specs.declared.Moved.{Moved}
+use Rattle.datapath.specs.declared.Half.the-variants.{Nothing}
+use Rattle.datapath.specs.Transfer.{Transfer, moved, waits, transferred, leftIn}
+use Rattle.datapath.proofs.Laws.{transfer-refused, rdm-stays}
+use Rattle.bus.specs.Ports.{Left}
+use Rattle.microword.specs.declared.Fields.{Fields}
+use Rattle.microword.specs.Microword.{fieldsOf}
+use Rattle.microword.proofs.Laws.{Within, fields-within}
+use Rattle.word.proofs.Laws.{kept-below}
+use Rattle.cycle.specs.Cycle.{State, Cycled, result, stored, found, transfer, target, nextLine, arrived, driven, settled, cycleOf}
+use Rattle.cycle.specs.Standing.{stepped, Beginning, beginning}
+use Rattle.cycle.specs.declared.Stepped.{Stepped}
+
+-- No second answer: a cycle's promise fixes what it hands back and all three lent lists.
+pub step-only : {d : Cycled} {r r′ : Stepped} {registers registers′ memory memory′ log log′ : List ℕ} → d ≡ stepped r registers memory log
+    → d ≡ stepped r′ registers′ memory′ log′ → (r ≡ r′) × (registers ≡ registers′) × (memory ≡ memory′) × (log ≡ log′)
+step-only p q =
+    let e = sym p ∙ q in (
+      ap (λ (c : Cycled). record { line = record { 0 = c .next .line }; half = c .next .half; place = c .next .place; count = c .next .count; full = c .full }) e,
+      ap (λ (c : Cycled). c .next .registers) e,
+      ap (λ (c : Cycled). c .next .memory) e,
+      ap (λ (c : Cycled). c .next .log) e,
+    )
+
+-- Putting back what stood in S undoes the store.
+restored : (m : Fields) (value : ℕ) (registers : List ℕ) (hs : Bool) → eqb (m .hs) 1 ≡ hs
+    → set (stored m value registers) (m .s) (getD registers (m .s) 0) ≡ registers
+unfolding stored
+restored m value registers true e = rw (e, set-set) (set-getD registers (m .s) 0)
+restored m value registers false e = rw e (set-getD registers (m .s) 0)
+
+-- The fields that a cycle goes by are below their bounds.
+pub small : (word line : ℕ) (registers : List ℕ) {b : Beginning} → beginning word line registers ≡ b → Within (b .fields)
+unfolding beginning
+small word line registers first = subst (λ (x : Beginning). Within (x .fields)) first (fields-within word)
+
+-- A cycle from its store on, by what its transfer comes to.
+module _ (word : ℕ) (input : List ℕ) (s : State) {b : Beginning} (first : beginning word (s .line) (s .registers) ≡ b) where
+  goes-on : cycleOf word input s ≡ settled s (arrived (b .next) (b .registers) (transfer (b .fields) input (b .registers) s))
+  unfolding cycleOf driven beginning
+  goes-on = ap (λ (x : Beginning). settled s (arrived (x .next) (x .registers) (transfer (x .fields) input (x .registers) s))) first
+
+  put-back : set (b .registers) (b .fields .s) (b .stood) ≡ s .registers
+  unfolding beginning
+  put-back =
+      let m : Fields = fieldsOf word in
+      subst (λ (x : Beginning). set (x .registers) (x .fields .s) (x .stood) ≡ s .registers) first
+      (restored m (result m (s .registers)) (s .registers) (eqb (m .hs) 1) refl)
+
+  module _ {r : Moved} {memory log : List ℕ} (moves : transferred (eqb (b .fields .rd) 1) (eqb (b .fields .wr) 1) input (s .half) (found (b .registers) s) ≡ moved r memory log) where
+    -- Without RD the transfer's RDM is the one that stands there.
+    same-rdm : (rd : Bool) → eqb (b .fields .rd) 1 ≡ rd → cond rd (set (b .registers) 7 (r .rdm)) (b .registers) ≡ set (b .registers) 7 (r .rdm)
+    same-rdm true e = refl
+    same-rdm false e =
+        let w : r .rdm ≡ getD (b .registers) 7 0 = sym (ap (λ (x : Transfer). x .rdm) (rw e at moves)) ∙ rdm-stays (eqb (b .fields .wr) 1) input (s .half) (found (b .registers) s) in
+        rw w (sym (set-getD (b .registers) 7 0))
+
+    pub carried : r .full ≡ false
+        → cycleOf word input s
+        ≡ record { next = record { line = b .next; registers = cond (eqb (b .fields .rd) 1) (set (b .registers) 7 (r .rdm)) (b .registers); half = r .half; place = r .place; count = r .count; memory = memory; log = log }; full = false }
+    unfolding settled transfer
+    carried f = rw (goes-on, moves, f, same-rdm _ refl)
+
+    -- A refused transfer leaves memory and log as they were.
+    pub refused : r .full ≡ true
+        → cycleOf word input s
+        ≡ record { next = record { line = s .line; registers = set (b .registers) (b .fields .s) (b .stood); half = s .half; place = s .place; count = s .count; memory = memory; log = log }; full = true }
+    unfolding settled transfer
+    refused f =
+        let e : leftIn (moved r memory log) ≡ record { memory = s .memory; log = s .log; count = s .count; full = true } =
+        rw moves at (transfer-refused (eqb (b .fields .rd) 1) (eqb (b .fields .wr) 1) input (s .half) (found (b .registers) s) (ap (λ (x : Transfer). x .full) moves ∙ f)) in
+        rw (goes-on, moves, f, put-back, ap (λ (x : Left). x .memory) e, ap (λ (x : Left). x .log) e)
+
+  -- Without RD and WR nothing is transferred, and RDM is what stands there.
+  pub rests : (not (eqb (b .fields .rd) 1) && not (eqb (b .fields .wr) 1)) ≡ true
+      → cycleOf word input s
+      ≡ record { next = record { line = b .next; registers = b .registers; half = Nothing; place = s .place; count = s .count; memory = s .memory; log = s .log }; full = false }
+  unfolding settled transfer transferred waits
+  rests e =
+      let n : (eqb (b .fields .rd) 1 ≡ false) × (eqb (b .fields .wr) 1 ≡ false) = both (eqb (b .fields .rd) 1) (eqb (b .fields .wr) 1) e in
+      rw (goes-on, n .0, n .1, set-getD (b .registers) 7 0)
+    where
+      both : (p q : Bool) → (not p && not q) ≡ true → (p ≡ false) × (q ≡ false)
+      both true q e = absurd (true≢false (sym e))
+      both false true e = absurd (true≢false (sym e))
+      both false false e = (refl, refl)
+
+-- What holds before a cycle and after what its control word drives holds after the cycle.
+pub settled-keeps : (P : State → Type 0) (s : State) (c : Cycled) → P s → P (c .next) → P (settled s c .next)
+unfolding settled
+settled-keeps P s c h g = by (c .full)
+  where
+    by : (full : Bool) → P (cond full (record { next = s; full = true }) c .next)
+    by true = h
+    by false = g
+
+-- A cycle that starts at one of the 64 lines ends at one.
+pub target-within : (m : Fields) (jump : Bool) (line : ℕ) → m .end < 64 → target m jump line < 64
+unfolding target
+target-within m true line h = h
+target-within m false line h = kept-below 6 (line + 1)
+
+pub line-within : (word : ℕ) (input : List ℕ) (s : State) {a : Cycled} → s .line < 64 → cycleOf word input s ≡ a → a .next .line < 64
+unfolding cycleOf driven nextLine
+line-within word input s h e =
+    let m : Fields = fieldsOf word in
+    subst (λ (c : Cycled). c .next .line < 64) e
+    (settled-keeps (λ t. t .line < 64) s (driven m input s) h (target-within m _ (s .line) (fields-within word .end)))
