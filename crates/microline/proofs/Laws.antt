@@ -1,7 +1,7 @@
 -- Laws of tables of texts, of the pieces of a line, of a line's length, and of fields without use.
 use Prim.Native.Nat.{ℕ, zero, suc, _+_, _-_, _/_, _%_, _≤_, _<_}
 use mathlib.Core.Path.{_≡_, refl, sym, ap, ap₂, _∙_}
-use mathlib.Core.Bool.{Bool, true, false, cond, not, _&&_, _||_}
+use mathlib.Core.Bool.{Bool, true, false, true≢false, cond, not, _||_}
 use mathlib.Core.List.{List, [], _∷_, _++_, append-nil, append-assoc, map}
 use native.Mathlib.Nat.{suc-add, zero-add}
 use native.Mathlib.Numerals.{add-one}
@@ -48,15 +48,15 @@ entry front (piece ∷ pieces) (suc k) h =
     record { ordered = rw (suc-add k 1) (e .ordered); inside = rw (suc-add k 1) (e .inside); same = rw (suc-add k 1) (e .same) }
 
 -- The same of the table, where the code has its text and its starts.
-pub table-entry : (all begins : List ℕ) (k : ℕ) → all ≡ texts table → begins ≡ starts 0 table → k < 49 → Entry all begins k (getD table k [])
+pub table-entry : (all begins : List ℕ) (k : ℕ) → all ≡ texts table → begins ≡ starts 0 table → k < 47 → Entry all begins k (getD table k [])
 unfolding table destinations signsBefore signsBehind seconds transfers jumpWords
 table-entry all begins k e f h = rw (e, f) (entry [] table k h)
 
-pub texts-known : (all : List ℕ) → all ≡ texts table → length all ≡ 156
+pub texts-known : (all : List ℕ) → all ≡ texts table → length all ≡ 160
 unfolding texts table destinations signsBefore signsBehind seconds transfers jumpWords
 texts-known all e = ap length e
 
-pub starts-known : (begins : List ℕ) → begins ≡ starts 0 table → length begins ≡ 50
+pub starts-known : (begins : List ℕ) → begins ≡ starts 0 table → length begins ≡ 48
 unfolding starts table destinations signsBefore signsBehind seconds transfers jumpWords
 starts-known begins e = ap length e
 
@@ -79,18 +79,18 @@ small w =
       end = omega arith;
     }
 
--- What F computes, as the code puts it.
-pub formula-pieces : (f : ℕ) (a b : List ℕ) → f < 8
-    → getD (formulas a b) f [] ≡ getD signsBefore f [] ++ a ++ getD signsBehind f [] ++ cond (eqb f 3 || eqb f 4 || eqb f 5) b []
+-- What F computes with the semicolon, as the code puts it.
+formula-pieces : (f : ℕ) (a b : List ℕ) → f < 8
+    → getD (formulas a b) f [] ++ bytes ";" ≡ getD signsBefore f [] ++ a ++ getD signsBehind f [] ++ cond (eqb f 3 || eqb f 4 || eqb f 5) (ends b) []
 unfolding formulas signsBefore signsBehind
-formula-pieces zero a b h = simp append-nil
-formula-pieces (suc zero) a b h = simp append-nil
-formula-pieces (suc (suc zero)) a b h = simp append-nil
-formula-pieces (suc (suc (suc zero))) a b h = refl
-formula-pieces (suc (suc (suc (suc zero)))) a b h = refl
-formula-pieces (suc (suc (suc (suc (suc zero))))) a b h = refl
-formula-pieces (suc (suc (suc (suc (suc (suc zero)))))) a b h = simp append-nil
-formula-pieces (suc (suc (suc (suc (suc (suc (suc zero))))))) a b h = simp append-nil
+formula-pieces zero a b h = sym (append-nil (a ++ bytes ";"))
+formula-pieces (suc zero) a b h = append-assoc a (bytes "+1") (bytes ";") ∙ sym (append-nil (a ++ bytes "+1;"))
+formula-pieces (suc (suc zero)) a b h = append-assoc a (bytes "-1") (bytes ";") ∙ sym (append-nil (a ++ bytes "-1;"))
+formula-pieces (suc (suc (suc zero))) a b h = append-assoc (a ++ bytes "+") b (bytes ";")
+formula-pieces (suc (suc (suc (suc zero)))) a b h = append-assoc (a ++ bytes "-") b (bytes ";")
+formula-pieces (suc (suc (suc (suc (suc zero))))) a b h = append-assoc (a ++ bytes "^") b (bytes ";")
+formula-pieces (suc (suc (suc (suc (suc (suc zero)))))) a b h = sym (append-nil (bytes "<<" ++ a ++ bytes ";"))
+formula-pieces (suc (suc (suc (suc (suc (suc (suc zero))))))) a b h = sym (append-nil (bytes ">>" ++ a ++ bytes ";"))
 formula-pieces (suc (suc (suc (suc (suc (suc (suc (suc f)))))))) a b h = absurd (omega arith)
 
 -- A piece of each list of the table.
@@ -121,40 +121,34 @@ behind-at : (f : ℕ) → f < 8 → getD table (25 + f) [] ≡ getD signsBehind 
 unfolding table destinations signsBefore signsBehind
 behind-at f h = in-table 25 signsBehind f refl h
 
-jump-at : (sq : ℕ) → sq < 4 → getD table (45 + sq) [] ≡ getD jumpWords sq []
+jump-at : (sq : ℕ) → sq < 4 → getD table (43 + sq) [] ≡ getD jumpWords sq []
 unfolding table destinations signsBefore signsBehind seconds transfers jumpWords
-jump-at sq h = in-table 45 jumpWords sq refl h
+jump-at sq h = in-table 43 jumpWords sq refl h
 
 -- The pieces of a word's parts: with an operation, and with none.
-joined : (gap sign stop d before a behind b move jump : List ℕ)
-    → gap ++ d ++ sign ++ (before ++ (a ++ (behind ++ (b ++ stop ++ (move ++ (jump ++ [])))))) ≡ gap ++ (d ++ sign ++ (before ++ a ++ behind ++ b)) ++ stop ++ move ++ jump
-joined gap sign stop d before a behind b move jump = simp (append-assoc, append-nil)
+joined : (gap sign stop d formula before a behind last move jump : List ℕ) → formula ++ stop ≡ before ++ a ++ behind ++ last
+    → gap ++ d ++ sign ++ (before ++ (a ++ (behind ++ (last ++ (move ++ (jump ++ [])))))) ≡ gap ++ (d ++ sign ++ formula) ++ stop ++ move ++ jump
+joined gap sign stop d formula before a behind last move jump e =
+    let regroup : gap ++ d ++ sign ++ (before ++ (a ++ (behind ++ (last ++ (move ++ (jump ++ [])))))) ≡ gap ++ d ++ sign ++ (before ++ a ++ behind ++ last) ++ move ++ jump =
+    simp (append-assoc, append-nil) in
+    let back : gap ++ d ++ sign ++ (formula ++ stop) ++ move ++ jump ≡ gap ++ (d ++ sign ++ formula) ++ stop ++ move ++ jump = simp append-assoc in
+    regroup ∙ ap (λ (t : List ℕ). gap ++ d ++ sign ++ t ++ move ++ jump) (sym e) ∙ back
 
 pub spells-all : (m : Fields) (store last move : ℕ) → Small m → idle m ≡ false → Chosen store (to m) → Chosen last (second m) → Chosen move (transferPart m)
-    → Spells (store ∷ (9 + m .f) ∷ (17 + m .a) ∷ (25 + m .f) ∷ last ∷ move ∷ (45 + m .sq) ∷ []) (parts m)
+    → Spells (store ∷ (9 + m .f) ∷ (17 + m .a) ∷ (25 + m .f) ∷ last ∷ move ∷ (43 + m .sq) ∷ []) (parts m)
 unfolding spelt Known operation binary parts
 spells-all m store last move s busy t l v =
     record {
       known = (t .known, (omega (arith, s .f), (omega (arith, s .a), (omega (arith, s .f), (l .known, (v .known, (omega (arith, s .sq), tt)))))));
       same =
-          rw (
-            t .same,
-            before-at (m .f) (s .f),
-            register-at (m .a) (s .a),
-            behind-at (m .f) (s .f),
-            l .same,
-            v .same,
-            jump-at (m .sq) (s .sq),
-            busy,
-            formula-pieces (m .f) (register (m .a)) (register (m .b)) (s .f),
-          )
-          (joined (bytes " ") (bytes ":=") (bytes ";") (destination m) (getD signsBefore (m .f) []) (register (m .a)) (getD signsBehind (m .f) []) (cond (binary m) (register (m .b)) [])
-          (transferPart m) (getD jumpWords (m .sq) []));
+          rw (t .same, before-at (m .f) (s .f), register-at (m .a) (s .a), behind-at (m .f) (s .f), l .same, v .same, jump-at (m .sq) (s .sq), busy)
+          (joined (bytes " ") (bytes ":=") (bytes ";") (destination m) (formula m) (getD signsBefore (m .f) []) (register (m .a)) (getD signsBehind (m .f) [])
+          (second m) (transferPart m) (getD jumpWords (m .sq) []) (formula-pieces (m .f) (register (m .a)) (register (m .b)) (s .f)));
     }
 
 pub spells-idle : (m : Fields) (move : ℕ) → Small m → idle m ≡ true → Chosen move (transferPart m)
-    → Spells (42 ∷ 42 ∷ 42 ∷ 42 ∷ 42 ∷ move ∷ (45 + m .sq) ∷ []) (parts m)
-unfolding spelt Known parts table destinations signsBefore signsBehind seconds transfers
+    → Spells (43 ∷ 43 ∷ 43 ∷ 43 ∷ 43 ∷ move ∷ (43 + m .sq) ∷ []) (parts m)
+unfolding spelt Known parts table destinations signsBefore signsBehind seconds transfers jumpWords
 spells-idle m move s rests v =
     record {
       known = (omega arith, (omega arith, (omega arith, (omega arith, (omega arith, (v .known, (omega (arith, s .sq), tt)))))));
@@ -197,7 +191,7 @@ pub spelt-end : (which : List ℕ) (i : ℕ) → length which ≤ i → spelt (d
 unfolding spelt
 spelt-end which i h = rw (drop-of-length-le which h)
 
-pub known-at : (which : List ℕ) (i : ℕ) → Known which → i < length which → getD which i 0 < 49
+pub known-at : (which : List ℕ) (i : ℕ) → Known which → i < length which → getD which i 0 < 47
 unfolding Known
 known-at [] i k h = absurd (omega arith)
 known-at (x ∷ which) zero k h = k .0
@@ -274,11 +268,17 @@ destination-same false s = refl
 
 formula-same : (used : Bool) (f : ℕ) (a : List ℕ) (b : ℕ) → f < 8 → (eqb f 3 || eqb f 4 || eqb f 5) ≡ used
     → getD (formulas a (register (cond (not used) 0 b))) f [] ≡ getD (formulas a (register b)) f []
+unfolding formulas
 formula-same true f a b h e = refl
-formula-same false f a b h e =
-    let pieces : (c : List ℕ) → getD (formulas a c) f [] ≡ getD signsBefore f [] ++ a ++ getD signsBehind f [] ++ [] =
-    λ c. formula-pieces f a c h ∙ ap (λ (t : Bool). getD signsBefore f [] ++ a ++ getD signsBehind f [] ++ cond t c []) e in
-    pieces (register 0) ∙ sym (pieces (register b))
+formula-same false zero a b h e = refl
+formula-same false (suc zero) a b h e = refl
+formula-same false (suc (suc zero)) a b h e = refl
+formula-same false (suc (suc (suc zero))) a b h e = absurd (true≢false e)
+formula-same false (suc (suc (suc (suc zero)))) a b h e = absurd (true≢false e)
+formula-same false (suc (suc (suc (suc (suc zero))))) a b h e = absurd (true≢false e)
+formula-same false (suc (suc (suc (suc (suc (suc zero)))))) a b h e = refl
+formula-same false (suc (suc (suc (suc (suc (suc (suc zero))))))) a b h e = refl
+formula-same false (suc (suc (suc (suc (suc (suc (suc (suc f)))))))) a b h e = absurd (omega arith)
 
 operation-same : (unused used : Bool) (hs f a b s : ℕ) → f < 8 → (eqb f 3 || eqb f 4 || eqb f 5) ≡ used
     → part (not unused) (cond (eqb hs 0) (bytes "alu") (register (cond (eqb hs 0) 0 s)) ++ bytes ":="

@@ -27,24 +27,24 @@ stores name = bytes " " ++ name ++ bytes ":="
 unfoldable pub destinations : List (List ℕ)
 destinations = map stores (registers ++ bytes "alu" ∷ [])
 
--- What stands before the register a, by F, and what stands behind it.
+-- What stands before the register a, by F, and what stands behind it, with the operation's semicolon where F takes no b.
 unfoldable pub signsBefore : List (List ℕ)
 signsBefore = [] ∷ [] ∷ [] ∷ [] ∷ [] ∷ [] ∷ bytes "<<" ∷ bytes ">>" ∷ []
 
 unfoldable pub signsBehind : List (List ℕ)
-signsBehind = [] ∷ bytes "+1" ∷ bytes "-1" ∷ bytes "+" ∷ bytes "-" ∷ bytes "^" ∷ [] ∷ [] ∷ []
+signsBehind = bytes ";" ∷ bytes "+1;" ∷ bytes "-1;" ∷ bytes "+" ∷ bytes "-" ∷ bytes "^" ∷ bytes ";" ∷ bytes ";" ∷ []
 
--- The register b, or none, with the operation's semicolon.
+-- The register b with the operation's semicolon.
 abbrev pub ends : List ℕ → List ℕ
 ends name = name ++ bytes ";"
 
 unfoldable pub seconds : List (List ℕ)
-seconds = map ends (registers ++ [] ∷ [])
+seconds = map ends registers
 
 unfoldable pub transfers : List (List ℕ)
-transfers = [] ∷ bytes " rd;" ∷ bytes " wr;" ∷ []
+transfers = bytes " rd;" ∷ bytes " wr;" ∷ []
 
--- The words of a jump with the space before, by SQ.
+-- The words of a jump with the space before, by SQ; the first is empty.
 unfoldable pub jumpWords : List (List ℕ)
 jumpWords = [] ∷ bytes " if n then goto " ∷ bytes " if z then goto " ∷ bytes " goto " ∷ []
 
@@ -62,7 +62,7 @@ starts from (piece ∷ pieces) = from ∷ starts (from + length piece) pieces
 
 -- A piece of the table that is this text.
 pub record Chosen (which : ℕ) (text : List ℕ) : Type 0 where
-  pub known : which < 49
+  pub known : which < 47
   pub same : getD table which [] ≡ text
 
 -- Pieces one behind the other.
@@ -72,7 +72,7 @@ spelt (which ∷ more) = getD table which [] ++ spelt more
 
 unfoldable pub Known : List ℕ → Type 0
 Known [] = Unit {0}
-Known (which ∷ more) = (which < 49) × Known more
+Known (which ∷ more) = (which < 47) × Known more
 
 -- Pieces that spell this text.
 pub record Spells (which : List ℕ) (text : List ℕ) : Type 0 where
@@ -84,7 +84,7 @@ abbrev pub to : Fields → List ℕ
 to m = stores (destination m)
 
 abbrev pub second : Fields → List ℕ
-second m = ends (cond (binary m) (register (m .b)) [])
+second m = cond (binary m) (ends (register (m .b))) []
 
 -- A line's parts up to a jump's target, and the target.
 unfoldable pub parts : Fields → List ℕ

@@ -11,7 +11,7 @@ use microword::Fields;
 use microword::fields_of;
 
 // Where each kind of piece begins in the table: the signs before the register a by F, registers, the signs behind it by F,
-// the registers b with their semicolon, transfers, and the words of a jump by SQ. Destinations stand first.
+// the registers b with their semicolon, transfers, and the words of a jump by SQ, the first of which is empty. Destinations stand first.
 const BEFORE: usize = 9;
 
 const REGISTERS: usize = 17;
@@ -20,9 +20,61 @@ const BEHIND: usize = 25;
 
 const SECONDS: usize = 33;
 
-const TRANSFERS: usize = 42;
+const TRANSFERS: usize = 41;
 
-const JUMPS: usize = 45;
+const NONE: usize = 43;
+
+// Where each piece starts in the table's text; it ends where the next one starts. Bytes, since the table is laid out anew for each line.
+const STARTS: [u8; 48] = [
+    0,
+    5,
+    10,
+    15,
+    20,
+    25,
+    32,
+    38,
+    44,
+    50,
+    50,
+    50,
+    50,
+    50,
+    50,
+    50,
+    52,
+    54,
+    56,
+    58,
+    60,
+    62,
+    64,
+    68,
+    71,
+    74,
+    75,
+    78,
+    81,
+    82,
+    83,
+    84,
+    85,
+    86,
+    89,
+    92,
+    95,
+    98,
+    101,
+    106,
+    110,
+    114,
+    118,
+    122,
+    122,
+    138,
+    154,
+    160,
+];
 
 // Pieces of the table, one behind the other: the table's text, where each piece starts in it, and which pieces.
 fn put_pieces(room: &mut [u8], from: usize, texts: &[u8], starts: &[u8], which: &[usize]) -> usize
@@ -53,7 +105,7 @@ fn destination(m: Fields) -> usize
     m.s as usize
 }
 
-// The register b, where F takes one, with the operation's semicolon.
+// The register b with the operation's semicolon, where F takes one.
 fn second_of(m: Fields) -> usize
     requires { ⌜ Small m ⌝ }
     ensures { λ r. ⌜ Chosen r (second m) ⌝ }
@@ -62,7 +114,7 @@ fn second_of(m: Fields) -> usize
     if (f == 3) | (f == 4) | (f == 5) {
         return SECONDS + m.b as usize;
     }
-    SECONDS + 8
+    NONE
 }
 
 // `rd` or `wr`, where the word has one.
@@ -70,12 +122,12 @@ fn transfer(m: Fields) -> usize
     ensures { λ r. ⌜ Chosen r (transferPart m) ⌝ }
 {
     if m.rd == 1 {
-        return TRANSFERS + 1;
+        return TRANSFERS;
     }
     if m.wr == 1 {
-        return TRANSFERS + 2;
+        return TRANSFERS + 1;
     }
-    TRANSFERS
+    NONE
 }
 
 // The pieces of a word's parts up to a jump's target. No operation where nothing asks for its result; else a sign
@@ -86,17 +138,9 @@ fn parts(m: Fields) -> [usize; 7]
 {
     let moved = transfer(m);
     let sq = m.sq;
-    let jump = JUMPS + sq as usize;
+    let jump = NONE + sq as usize;
     if (m.hs == 0) & ((sq == 0) | (sq == 3)) {
-        return [
-            TRANSFERS,
-            TRANSFERS,
-            TRANSFERS,
-            TRANSFERS,
-            TRANSFERS,
-            moved,
-            jump,
-        ];
+        return [NONE, NONE, NONE, NONE, NONE, moved, jump];
     }
     let f = m.f as usize;
     let before = BEFORE + f;
@@ -105,7 +149,7 @@ fn parts(m: Fields) -> [usize; 7]
     [destination(m), before, a, behind, second_of(m), moved, jump]
 }
 
-// A word's parts up to a jump's target. Starts are bytes, since the table is laid out anew for each line.
+// A word's parts up to a jump's target.
 fn put_parts(room: &mut [u8], at: usize, m: Fields) -> usize
     requires { ⌜ Small m × (at + length (Pieces·parts m) ≤ length (now room)) ⌝ }
     ensures { λ r. ⌜ Wrote (now (room .entry)) at (Pieces·parts m) (now (room .exit)) r ⌝ }
@@ -114,59 +158,8 @@ fn put_parts(room: &mut [u8], at: usize, m: Fields) -> usize
     put_pieces(
         room,
         at,
-        b" cp:= ac:= pp:= ri:= rt:= masc:= rem:= rdm:= alu:=<<>>cpacpprirtmascremrdm+1-1+-^cp;ac;pp;ri;rt;masc;rem;rdm;; rd; wr; if n then goto  if z then goto  goto ",
-        &[
-            0,
-            5,
-            10,
-            15,
-            20,
-            25,
-            32,
-            38,
-            44,
-            50,
-            50,
-            50,
-            50,
-            50,
-            50,
-            50,
-            52,
-            54,
-            56,
-            58,
-            60,
-            62,
-            64,
-            68,
-            71,
-            74,
-            74,
-            76,
-            78,
-            79,
-            80,
-            81,
-            81,
-            81,
-            84,
-            87,
-            90,
-            93,
-            96,
-            101,
-            105,
-            109,
-            110,
-            110,
-            114,
-            118,
-            118,
-            134,
-            150,
-            156,
-        ],
+        b" cp:= ac:= pp:= ri:= rt:= masc:= rem:= rdm:= alu:=<<>>cpacpprirtmascremrdm;+1;-1;+-^;;cp;ac;pp;ri;rt;masc;rem;rdm; rd; wr; if n then goto  if z then goto  goto ",
+        &STARTS,
         &which,
     )
 }

@@ -34,14 +34,14 @@ shared-slice-read-start : tie.Need-shared-slice-read-start Inv-loop μ-loop
 shared-slice-read-start c = let l = c .before .before .before in
     let s = l .before .before .before .before .before in
     let k = getD (now (s .args .which)) (l .loop .i) 0 in
-    let known : k < 49 = known-at (now (s .args .which)) (l .loop .i) (s .pre .1 .0) (c .before .before .loop-test .taken) in
+    let known : k < 47 = known-at (now (s .args .which)) (l .loop .i) (s .pre .1 .0) (c .before .before .loop-test .taken) in
     omega (arith, known, starts-known (now (s .args .starts)) (s .pre .0 .1))
 
 cast-start : tie.Need-cast-start Inv-loop μ-loop
 cast-start c = let l = c .before .before .before in
     let s = l .before .before .before .before .before in
     let k = getD (now (s .args .which)) (l .loop .i) 0 in
-    let known : k < 49 = known-at (now (s .args .which)) (l .loop .i) (s .pre .1 .0) (c .before .before .loop-test .taken) in
+    let known : k < 47 = known-at (now (s .args .which)) (l .loop .i) (s .pre .1 .0) (c .before .before .loop-test .taken) in
     let e = table-entry (now (s .args .texts)) (now (s .args .starts)) k (s .pre .0 .0) (s .pre .0 .1) known in
     omega (arith, e .ordered, e .inside, texts-known (now (s .args .texts)) (s .pre .0 .0))
 
@@ -49,21 +49,21 @@ add-end : tie.Need-add-end Inv-loop μ-loop
 add-end c = let l = c .before .before .before in
     let s = l .before .before .before .before .before in
     let k = getD (now (s .args .which)) (l .loop .i) 0 in
-    let known : k < 49 = known-at (now (s .args .which)) (l .loop .i) (s .pre .1 .0) (c .before .before .loop-test .taken) in
+    let known : k < 47 = known-at (now (s .args .which)) (l .loop .i) (s .pre .1 .0) (c .before .before .loop-test .taken) in
     omega (arith, known)
 
 shared-slice-read-end : tie.Need-shared-slice-read-end Inv-loop μ-loop
 shared-slice-read-end c = let l = c .before .before .before .before in
     let s = l .before .before .before .before .before in
     let k = getD (now (s .args .which)) (l .loop .i) 0 in
-    let known : k < 49 = known-at (now (s .args .which)) (l .loop .i) (s .pre .1 .0) (c .before .before .before .loop-test .taken) in
+    let known : k < 47 = known-at (now (s .args .which)) (l .loop .i) (s .pre .1 .0) (c .before .before .before .loop-test .taken) in
     omega (arith, known, starts-known (now (s .args .starts)) (s .pre .0 .1))
 
 cast-end : tie.Need-cast-end Inv-loop μ-loop
 cast-end c = let l = c .before .before .before .before in
     let s = l .before .before .before .before .before in
     let k = getD (now (s .args .which)) (l .loop .i) 0 in
-    let known : k < 49 = known-at (now (s .args .which)) (l .loop .i) (s .pre .1 .0) (c .before .before .before .loop-test .taken) in
+    let known : k < 47 = known-at (now (s .args .which)) (l .loop .i) (s .pre .1 .0) (c .before .before .before .loop-test .taken) in
     let e = table-entry (now (s .args .texts)) (now (s .args .starts)) k (s .pre .0 .0) (s .pre .0 .1) known in
     omega (arith, e .ordered, e .inside, texts-known (now (s .args .texts)) (s .pre .0 .0))
 
@@ -71,7 +71,7 @@ sub-put : tie.Need-sub-put Inv-loop μ-loop
 sub-put c = let l = c .before .before .before .before .before in
     let s = l .before .before .before .before .before in
     let k = getD (now (s .args .which)) (l .loop .i) 0 in
-    let known : k < 49 = known-at (now (s .args .which)) (l .loop .i) (s .pre .1 .0) (c .before .before .before .before .loop-test .taken) in
+    let known : k < 47 = known-at (now (s .args .which)) (l .loop .i) (s .pre .1 .0) (c .before .before .before .before .loop-test .taken) in
     table-entry (now (s .args .texts)) (now (s .args .starts)) k (s .pre .0 .0) (s .pre .0 .1) known .ordered
 
 part-put-start : tie.Need-part-put-start Inv-loop μ-loop
@@ -81,7 +81,7 @@ part-put-end : tie.Need-part-put-end Inv-loop μ-loop
 part-put-end c = let l = c .before .before .before .before .before in
     let s = l .before .before .before .before .before in
     let k = getD (now (s .args .which)) (l .loop .i) 0 in
-    let known : k < 49 = known-at (now (s .args .which)) (l .loop .i) (s .pre .1 .0) (c .before .before .before .before .loop-test .taken) in
+    let known : k < 47 = known-at (now (s .args .which)) (l .loop .i) (s .pre .1 .0) (c .before .before .before .before .loop-test .taken) in
     table-entry (now (s .args .texts)) (now (s .args .starts)) k (s .pre .0 .0) (s .pre .0 .1) known .inside
 
 put-requires : tie.Need-put-requires Inv-loop μ-loop
@@ -97,7 +97,7 @@ loop-again : tie.Need-loop-again Inv-loop μ-loop
 loop-again c = let l = c .before .before .before .before .before .before .before .before .before in
     let s = l .before .before .before .before .before in
     let k = getD (now (s .args .which)) (l .loop .i) 0 in
-    let known : k < 49 = known-at (now (s .args .which)) (l .loop .i) (s .pre .1 .0) (c .before .before .before .before .before .before .before .before .loop-test .taken) in
+    let known : k < 47 = known-at (now (s .args .which)) (l .loop .i) (s .pre .1 .0) (c .before .before .before .before .before .before .before .before .loop-test .taken) in
     let which = now (s .args .which) in
     let i = l .loop .i in
     let inside = c .before .before .before .before .before .before .before .before .loop-test .taken in

@@ -3,7 +3,7 @@ use mathlib.Core.Path.{refl}
 use native.Mathlib.Omega.{arith}
 use borrow.Author.Needs.{needs}
 use Rattle.microword.specs.Microword.{binary}
-use Rattle.microline.specs.Pieces.{table, destinations, signsBefore, signsBehind, seconds}
+use Rattle.microline.specs.Pieces.{table, destinations, signsBefore, signsBehind, seconds, transfers, jumpWords}
 use Rattle.microline.proofs.Laws.{chosen-second}
 use Rattle.microline.proofs.second_of.Statement.{statement}
 use Rattle.microline.proofs.second_of.Tie as tie
@@ -18,12 +18,9 @@ returns : tie.Need-returns
 unfolding binary
 returns c = rw (c .before .if1 .taken) (chosen-second _ (c .before .before .pre .b))
 
-add-result-2 : tie.Need-add-result-2
-add-result-2 c = search needs
-
 returns-2 : tie.Need-returns-2
-unfolding binary table destinations signsBefore signsBehind seconds
+unfolding binary table destinations signsBefore signsBehind seconds transfers jumpWords
 returns-2 c = rw (c .if1 .left) (record { known = omega arith; same = refl })
 
 pub second-of-spec : {M : Type 1} → statement M
-second-of-spec = tie.close (tie.spec cast-result add-result returns add-result-2 returns-2)
+second-of-spec = tie.close (tie.spec cast-result add-result returns returns-2)
