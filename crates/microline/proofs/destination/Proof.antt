@@ -1,5 +1,4 @@
 -- `destination` tests HS as the definition does.
-use Prim.Native.Nat.{_<_}
 use mathlib.Core.Path.{refl}
 use native.Mathlib.Omega.{arith}
 use borrow.Author.Tests.{eq-eqb, ne-eqb}

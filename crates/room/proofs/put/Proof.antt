@@ -7,7 +7,6 @@ use native.Mathlib.Omega.{arith}
 use denote.Ref.{now}
 use lib.ListN.{length, getD, drop, length-set, drop-of-length-le}
 use lib.Seq.{sets}
-use borrow.Author.Needs.{needs}
 use Rattle.room.proofs.Laws.{laid-stored, not-laid, put-next}
 use Rattle.room.proofs.put.Statement.{statement}
 use Rattle.room.proofs.put.Tie as tie
