@@ -12,8 +12,8 @@ use lib.ListN.{length, getD, take, drop, length-append, drop-of-length-le}
 use lib.Seq.{drop-cons, take-append-seam}
 use Rattle.io.specs.Counts.{Counts}
 use Rattle.io.specs.Digits.{digits as lastDigits, Fewest}
-use Rattle.lister.specs.Pieces.{Wrote}
-use Rattle.lister.proofs.Laws.{all-of}
+use Rattle.room.specs.Laid.{Wrote}
+use Rattle.room.proofs.Laws.{all-of}
 use Rattle.console.specs.Text.{digits, decimal, signed, lines, Shown, shown}
 
 -- The fewest digits that hold a number are those of its decimal.

@@ -1,9 +1,9 @@
 // What the two programs share: standard input read to its end, the texts that they print as bytes in a lent room, and standard output.
 ghost use mathlib.Core.Path.{_≡_};
-ghost use mathlib.Core.List.{[], _∷_, _++_};
-ghost use Prim.Native.Nat.{_+_, _*_, _≤_};
-ghost use lib.ListN.{length};
-ghost use Rattle.lister.specs.Pieces.{Wrote};
+ghost use mathlib.Core.List.{List, [], _∷_, _++_};
+ghost use Prim.Native.Nat.{ℕ, _+_, _*_, _≤_};
+ghost use lib.ListN.{length, take};
+ghost use Rattle.room.specs.Laid.{Wrote};
 ghost use Rattle.console.specs.Text.{decimal, signed, counts, registers, line, lines, refusal as Text·refusal, badWord, report as Text·report, shown};
 ghost use Rattle.console.specs.Input.{Held};
 use word::Address;
@@ -66,19 +66,6 @@ pub fn write_out(text: &[u8]) -> bool {
     libc::close(libc::STDOUT_FILENO) == 0
 }
 
-// Stores `text` from `at` on, and answers the place behind it.
-fn put(room: &mut [u8], at: usize, text: &[u8]) -> usize
-    requires { ⌜ at + length (now text) ≤ length (now room) ⌝ }
-    ensures { λ r. ⌜ Wrote (now (room .entry)) at (now (text .entry)) (now (room .exit)) r ⌝ }
-{
-    let mut i: usize = 0;
-    while i < text.len() {
-        room[at + i] = text[i];
-        i += 1;
-    }
-    at + i
-}
-
 // A number in decimal, of at most 20 digits.
 fn put_decimal(room: &mut [u8], at: usize, n: u64) -> usize
     requires { ⌜ at + 20 ≤ length (now room) ⌝ }
@@ -87,7 +74,7 @@ fn put_decimal(room: &mut [u8], at: usize, n: u64) -> usize
 {
     let mut digits = [0u8; 20];
     let k = io::decimal(n, &mut digits);
-    put(room, at, &digits[..k])
+    room::put(room, at, &digits[..k])
 }
 
 // A label and a number.
@@ -96,7 +83,7 @@ fn put_labelled(room: &mut [u8], at: usize, label: &[u8], n: u64) -> usize
     ensures { λ r. ⌜ Wrote (now (room .entry)) at (now (label .entry) ++ decimal n) (now (room .exit)) r ⌝ }
     ensures { λ r. ⌜ r ≤ at + length (now (label .entry)) + 20 ⌝ }
 {
-    let number = put(room, at, label);
+    let number = room::put(room, at, label);
     put_decimal(room, number, n)
 }
 
@@ -131,7 +118,7 @@ fn put_registers(room: &mut [u8], at: usize, run: Run) -> usize
 {
     let pp = put_labelled(room, at, b" cp ", run.cp.0 as u64);
     let ac = put_labelled(room, pp, b" pp ", run.pp.0 as u64);
-    let value = put(room, ac, b" ac ");
+    let value = room::put(room, ac, b" ac ");
     put_signed(room, value, run.ac)
 }
 
@@ -144,7 +131,8 @@ fn put_line(room: &mut [u8], run: Run) -> usize
     let cp = put_counts(room, run);
     let log = put_registers(room, cp, run);
     let end = put_labelled(room, log, b" log ", run.count as u64);
-    put(room, end, b"\n")
+    room[end] = 10;
+    end + 1
 }
 
 // A word on a line.
@@ -154,7 +142,8 @@ fn put_word(room: &mut [u8], at: usize, word: u16) -> usize
     ensures { λ r. ⌜ r ≤ at + 22 ⌝ }
 {
     let end = put_signed(room, at, word);
-    put(room, end, b"\n")
+    room[end] = 10;
+    end + 1
 }
 
 // Each word on a line.
@@ -180,7 +169,8 @@ pub fn refusal(answer: u32, room: &mut [u8]) -> usize
         return 0;
     }
     let end = put_labelled(room, 0, b"answer ", answer as u64);
-    put(room, end, b"\n")
+    room[end] = 10;
+    end + 1
 }
 
 // The line that names a bad word's line.
@@ -191,7 +181,18 @@ pub fn bad_word(line: Line, room: &mut [u8]) -> usize
         return 0;
     }
     let end = put_labelled(room, 0, b"answer 4 line ", line.0 as u64);
-    put(room, end, b"\n")
+    room[end] = 10;
+    end + 1
+}
+
+// How many words the log's room holds of this many.
+fn held(count: usize) -> usize
+    ensures { λ r. ⌜ (r ≤ 8) × ((log : List ℕ) → length log ≡ 8 → take r log ≡ take count log) ⌝ }
+{
+    if count < 8 {
+        return count;
+    }
+    8
 }
 
 // The report of a run: its line, then each log word on a line.
@@ -203,9 +204,6 @@ pub fn report(run: Run, log: &[u16; 8], room: &mut [u8]) -> usize
     }
     let at = put_line(room, run);
     let words: &[u16] = log;
-    let count = run.count;
-    if count < 8 {
-        return put_words(room, at, &words[..count]);
-    }
-    put_words(room, at, words)
+    let count = held(run.count);
+    put_words(room, at, &words[..count])
 }

@@ -11,7 +11,8 @@ use lib.Seq.{drop-cons, take-suc-set, take-append-seam}
 use borrow.Author.Tests.{eq-eqb, le-ltb}
 use Rattle.microword.specs.Microword.{fieldsOf, firstBad}
 use Rattle.microtext.specs.Listing.{line, lines, shown, listing}
-use Rattle.lister.proofs.Laws.{line-le, shown-le}
+use Rattle.microline.proofs.Laws.{line-le}
+use Rattle.lister.proofs.Laws.{shown-le}
 use Rattle.console.specs.Text.{badWord}
 use Rattle.lister.specs.Answers.{Outcome, refused, done, listed}
 use Rattle.list.specs.Listing.{wordsOf, told, printed}

@@ -13,7 +13,7 @@ use Rattle.microword.specs.Microword.{fieldsOf, wordOf, badWord, firstBad, norm
 use Rattle.microword.proofs.Laws.{fields-within, word-below, normal-fields, normal-again}
 use Rattle.microtext.specs.Listing.{line, lines, upTo, shown, listing}
 use Rattle.lister.specs.Answers.{refused, done, listed}
-use Rattle.lister.proofs.Laws.{line-normal}
+use Rattle.microline.proofs.Laws.{line-normal}
 use Rattle.way_back.proofs.Reading.{AllGood, listing-back}
 use Rattle.way_back.specs.Back.{text, Back}
 

@@ -2,7 +2,7 @@
 use native.Mathlib.Omega.{arith}
 use borrow.Author.Needs.{needs}
 use Rattle.console.specs.Text.{counts}
-use Rattle.lister.proofs.Laws.{_then_}
+use Rattle.room.proofs.Laws.{_then_}
 use Rattle.console.proofs.put_counts.Statement.{statement}
 use Rattle.console.proofs.put_counts.Tie as tie
 

@@ -1,8 +1,13 @@
--- `put_line` puts the pieces of the line in turn.
+-- `put_line` puts the pieces of the line in turn, then byte 10.
+use Prim.Native.Nat.{_+_}
+use mathlib.Core.Path.{refl, _∙_}
+use mathlib.Core.List.{[], _∷_}
 use native.Mathlib.Omega.{arith}
+use lib.ListN.{set, length-set}
 use borrow.Author.Needs.{needs}
+use Rattle.room.specs.Laid.{Wrote}
+use Rattle.room.proofs.Laws.{_then_}
 use Rattle.console.specs.Text.{line}
-use Rattle.lister.proofs.Laws.{_then_}
 use Rattle.console.proofs.put_line.Statement.{statement}
 use Rattle.console.proofs.put_line.Tie as tie
 
@@ -18,18 +23,23 @@ slice-aggregate-put-labelled c = search needs
 put-labelled-requires : tie.Need-put-labelled-requires
 put-labelled-requires c κs = search needs
 
-slice-aggregate-put : tie.Need-slice-aggregate-put
-slice-aggregate-put c = search needs
+slice-write-room : tie.Need-slice-write-room
+slice-write-room c = search needs
 
-put-requires : tie.Need-put-requires
-put-requires c κs = search needs
+add-result : tie.Need-add-result
+add-result c = search needs
 
 same-length : tie.Need-same-length
-same-length c = search needs
+same-length c = let w = c .before .before .put-labelled in
+    length-set (w .last .0) (w .result) 10 ∙ w .kept .0 ∙ c .before .before .before .before .before .before .before .put-registers .kept .0 ∙ c .before .before .before .before .before .before .before .before .before .before .before .put-counts .kept .0
 
 returns : tie.Need-returns
 unfolding line
-returns c = (c .before .before .before .before .before .before .before .before .before .before .before .before .before .before .before .before .put-counts .ensures .0 then c .before .before .before .before .before .before .before .before .before .before .before .before .put-registers .ensures .0 then c .before .before .before .before .before .before .before .put-labelled .ensures .0 then c .before .before .put .ensures, omega (arith, c .before .before .put .ensures .behind, c .before .before .before .before .before .before .before .put-labelled .ensures .1, c .before .before .before .before .before .before .before .before .before .before .before .before .put-registers .ensures .1, c .before .before .before .before .before .before .before .before .before .before .before .before .before .before .before .before .put-counts .ensures .1))
+returns c = let w = c .before .before .put-labelled in
+    let counted = c .before .before .before .before .before .before .before .before .before .before .before .put-counts .ensures in
+    let stood = c .before .before .before .before .before .before .before .put-registers .ensures in
+    let end : Wrote (w .last .0) (w .result) (10 ∷ []) (set (w .last .0) (w .result) 10) (w .result + 1) = record { stored = refl; behind = refl } in
+    (counted .0 then stood .0 then w .ensures .0 then end, omega (arith, w .ensures .1, stood .1, counted .1))
 
 pub put-line-spec : {M : Type 1} → statement M
 put-line-spec =
@@ -39,7 +49,7 @@ put-line-spec =
     put-registers-requires
     slice-aggregate-put-labelled
     put-labelled-requires
-    slice-aggregate-put
-    put-requires
+    slice-write-room
+    add-result
     same-length
     returns)

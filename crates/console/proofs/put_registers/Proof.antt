@@ -2,7 +2,7 @@
 use native.Mathlib.Omega.{arith}
 use borrow.Author.Needs.{needs}
 use Rattle.console.specs.Text.{registers}
-use Rattle.lister.proofs.Laws.{_then_}
+use Rattle.room.proofs.Laws.{wrote, _then_}
 use Rattle.console.proofs.put_registers.Statement.{statement}
 use Rattle.console.proofs.put_registers.Tie as tie
 
@@ -31,14 +31,18 @@ put-requires : tie.Need-put-requires
 put-requires c κs = search needs
 
 put-signed-requires : tie.Need-put-signed-requires
-put-signed-requires c κs = search needs
+put-signed-requires c κs = let w = wrote (omega arith) (c .before .before .before .put .ensures) in
+    omega (arith, w .behind)
 
 same-length : tie.Need-same-length
 same-length c = search needs
 
 returns : tie.Need-returns
 unfolding registers
-returns c = (c .before .before .before .before .before .before .before .before .before .before .before .before .before .before .before .before .before .put-labelled .ensures .0 then c .before .before .before .before .before .before .before .before .before .before .before .put-labelled2 .ensures .0 then c .before .before .before .before .before .before .put .ensures then c .before .before .put-signed .ensures .0, omega (arith, c .before .before .before .before .before .before .put .ensures .behind, c .before .before .before .before .before .before .before .before .before .before .before .put-labelled2 .ensures .1, c .before .before .before .before .before .before .before .before .before .before .before .before .before .before .before .before .before .put-labelled .ensures .1))
+returns c = let first = c .before .before .before .before .before .before .before .before .before .before .before .before .before .before .before .before .before .put-labelled .ensures in
+    let next = c .before .before .before .before .before .before .before .before .before .before .before .put-labelled2 .ensures in
+    let label = wrote (omega (arith, first .1, next .1)) (c .before .before .before .before .before .before .put .ensures) in
+    (first .0 then next .0 then label then c .before .before .put-signed .ensures .0, omega (arith, label .behind, next .1, first .1))
 
 pub put-registers-spec : {M : Type 1} → statement M
 put-registers-spec =

@@ -1,7 +1,12 @@
 -- `put_word` puts the word, then byte 10.
+use Prim.Native.Nat.{_+_}
+use mathlib.Core.Path.{refl}
+use mathlib.Core.List.{[], _∷_}
 use native.Mathlib.Omega.{arith}
+use lib.ListN.{set}
 use borrow.Author.Needs.{needs}
-use Rattle.lister.proofs.Laws.{_then_}
+use Rattle.room.specs.Laid.{Wrote}
+use Rattle.room.proofs.Laws.{_then_}
 use Rattle.console.specs.Text.{lines}
 use Rattle.console.proofs.put_word.Statement.{statement}
 use Rattle.console.proofs.put_word.Tie as tie
@@ -9,19 +14,21 @@ use Rattle.console.proofs.put_word.Tie as tie
 put-signed-requires : tie.Need-put-signed-requires
 put-signed-requires c κs = search needs
 
-slice-aggregate-put : tie.Need-slice-aggregate-put
-slice-aggregate-put c = search needs
+slice-write-room : tie.Need-slice-write-room
+slice-write-room c = search needs
 
-put-requires : tie.Need-put-requires
-put-requires c κs = search needs
+add-result : tie.Need-add-result
+add-result c = search needs
 
 same-length : tie.Need-same-length
 same-length c = search needs
 
 returns : tie.Need-returns
 unfolding lines
-returns c = (c .before .before .before .before .before .before .before .put-signed .ensures .0 then c .before .before .put .ensures, omega (arith, c .before .before .put .ensures .behind))
+returns c = let w = c .before .before .put-signed in
+    let end : Wrote (w .last .0) (w .result) (10 ∷ []) (set (w .last .0) (w .result) 10) (w .result + 1) = record { stored = refl; behind = refl } in
+    (w .ensures .0 then end, omega arith)
 
 pub put-word-spec : {M : Type 1} → statement M
 put-word-spec =
-    tie.close (tie.spec put-signed-requires slice-aggregate-put put-requires same-length returns)
+    tie.close (tie.spec put-signed-requires slice-write-room add-result same-length returns)

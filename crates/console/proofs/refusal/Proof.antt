@@ -1,9 +1,14 @@
 -- `refusal` puts the line's field, then byte 10; a room under 512 bytes is left as found.
+use Prim.Native.Nat.{_+_}
+use mathlib.Core.Path.{refl}
+use mathlib.Core.List.{[], _∷_}
 use native.Mathlib.Omega.{arith}
+use lib.ListN.{set}
 use borrow.Author.Needs.{needs}
-use Rattle.lister.proofs.Laws.{_then_}
-use Rattle.console.proofs.Laws.{shown-put, not-shown}
+use Rattle.room.specs.Laid.{Wrote}
+use Rattle.room.proofs.Laws.{_then_}
 use Rattle.console.specs.Text.{refusal}
+use Rattle.console.proofs.Laws.{shown-put, not-shown}
 use Rattle.console.proofs.refusal.Statement.{statement}
 use Rattle.console.proofs.refusal.Tie as tie
 
@@ -16,18 +21,20 @@ slice-aggregate-put-labelled c = search needs
 put-labelled-requires : tie.Need-put-labelled-requires
 put-labelled-requires c κs = search needs
 
-slice-aggregate-put : tie.Need-slice-aggregate-put
-slice-aggregate-put c = search needs
+slice-write-room : tie.Need-slice-write-room
+slice-write-room c = search needs
 
-put-requires : tie.Need-put-requires
-put-requires c κs = search needs
+add-result : tie.Need-add-result
+add-result c = search needs
 
 same-length : tie.Need-same-length
 same-length c = search needs
 
 returns-2 : tie.Need-returns-2
 unfolding refusal
-returns-2 c = shown-put (c .before .before .before .before .before .before .before .put-labelled .ensures .0 then c .before .before .put .ensures) (c .before .before .before .before .before .before .before .before .before .before .if1 .left) (omega (arith, c .before .before .put .ensures .behind))
+returns-2 c = let w = c .before .before .put-labelled in
+    let end : Wrote (w .last .0) (w .result) (10 ∷ []) (set (w .last .0) (w .result) 10) (w .result + 1) = record { stored = refl; behind = refl } in
+    shown-put (w .ensures .0 then end) (c .before .before .before .before .before .if1 .left) (omega arith)
 
 pub refusal-spec : {M : Type 1} → statement M
 refusal-spec =
@@ -36,7 +43,7 @@ refusal-spec =
     returns
     slice-aggregate-put-labelled
     put-labelled-requires
-    slice-aggregate-put
-    put-requires
+    slice-write-room
+    add-result
     same-length
     returns-2)

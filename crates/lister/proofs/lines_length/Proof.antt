@@ -4,8 +4,9 @@ use native.Mathlib.Omega.{arith}
 use denote.Ref.{now}
 use lib.ListN.{length, drop, getD}
 use Prim.Native.Nat.{_+_, _-_, _*_, _≤_}
-use Rattle.lister.proofs.Laws.{lines-length, lines-end, line-le}
-use Rattle.lister.proofs.Laws.{lines-end, line-le}
+use Rattle.microline.proofs.Laws.{line-le, wrote-line}
+use Rattle.lister.proofs.Laws.{lines-length, lines-end}
+use borrow.Author.Needs.{needs}
 use Rattle.microtext.specs.Listing.{lines}
 use Rattle.microword.specs.Microword.{fieldsOf}
 use Rattle.lister.proofs.lines_length.Statement.{statement}
@@ -34,11 +35,13 @@ shared-slice-read-put-line : tie.Need-shared-slice-read-put-line Inv-loop μ-loo
 shared-slice-read-put-line c = omega arith
 
 put-line-requires : tie.Need-put-line-requires Inv-loop μ-loop
-put-line-requires c κs = (omega arith, omega arith)
+put-line-requires c κs = search needs
 
 add-sum : tie.Need-add-sum Inv-loop μ-loop
 add-sum c = let l = c .before .before .before .before .before in
-    omega (arith, line-le (l .loop .i) (fieldsOf (getD (now (l .before .before .args .words)) (l .loop .i) 0)))
+    let word = getD (now (l .before .before .args .words)) (l .loop .i) 0 in
+    let line = wrote-line (l .loop .i) word (omega arith) (omega arith) (c .before .put-line .ensures) in
+    omega (arith, line .behind, line-le (l .loop .i) (fieldsOf word))
 
 add-i : tie.Need-add-i Inv-loop μ-loop
 add-i c = omega arith
@@ -49,11 +52,13 @@ loop-less c = omega arith
 loop-again : tie.Need-loop-again Inv-loop μ-loop
 loop-again c = let l = c .before .before .before .before .before in
     let words = now (l .before .before .args .words) in
-    let at-most = line-le (l .loop .i) (fieldsOf (getD words (l .loop .i) 0)) in (
+    let word = getD words (l .loop .i) 0 in
+    let line = wrote-line (l .loop .i) word (omega arith) (omega arith) (c .before .put-line .ensures) in
+    let at-most = line-le (l .loop .i) (fieldsOf word) in (
       omega arith,
       c .before .put-line .kept .0 ∙ l .loop .inv .1,
-      omega arith,
-      omega (arith, lines-length words (l .loop .i) (c .before .before .before .before .loop-test .taken)),
+      omega (arith, line .behind),
+      omega (arith, line .behind, lines-length words (l .loop .i) (c .before .before .before .before .loop-test .taken)),
     )
 
 returns : tie.Need-returns Inv-loop μ-loop

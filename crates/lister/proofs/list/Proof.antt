@@ -8,7 +8,8 @@ use native.Mathlib.Omega.{arith}
 use native.Mathlib.Nat.{zero-add}
 use borrow.Author.Tests.{eq-eqb, ne-eqb, lt-ltb, le-ltb}
 use borrow.Author.Needs.{needs}
-use Rattle.lister.proofs.Laws.{same-text, shown-first, shown-le, all-of, past-room, all-done}
+use Rattle.room.proofs.Laws.{same-text, all-of}
+use Rattle.lister.proofs.Laws.{shown-first, shown-le, past-room, all-done}
 use Rattle.microtext.specs.Listing.{lines, shown, listing}
 use Rattle.lister.specs.Answers.{listed}
 use Rattle.lister.proofs.list.Statement.{statement}

@@ -8,10 +8,11 @@ use mathlib.Core.Path.{_≡_, refl, sym, ap, _∙_}
 use mathlib.Core.List.{List}
 use native.Mathlib.Omega.{arith}
 use lib.Seq.{sets}
-use Rattle.lister.proofs.Laws.{lines-next, lines-length, lines-end, line-le, at-start, same-text, stored-on}
+use Rattle.room.proofs.Laws.{wrote, at-start, same-text, stored-on}
+use Rattle.microline.proofs.Laws.{line-le, wrote-line}
+use Rattle.lister.proofs.Laws.{lines-next, lines-length, lines-end}
 use Rattle.microword.specs.Microword.{fieldsOf}
 use Rattle.microtext.specs.Listing.{lines}
-use Rattle.lister.proofs.Laws.{lines-next, lines-end, line-le}
 use Rattle.lister.proofs.put_lines.Statement.{statement}
 use Rattle.lister.proofs.put_lines.Tie as tie
 
@@ -39,23 +40,23 @@ shared-slice-read-put-line : tie.Need-shared-slice-read-put-line Inv-loop μ-loo
 shared-slice-read-put-line c = omega arith
 
 put-line-requires : tie.Need-put-line-requires Inv-loop μ-loop
-put-line-requires c κs = (omega arith, omega arith)
+put-line-requires c κs = search needs
 
 array-share-prefix-buffer : tie.Need-array-share-prefix-buffer Inv-loop μ-loop
 array-share-prefix-buffer c = let l = c .before .before .before .before .before .before in
-    omega (arith, line-le (l .loop .i) (fieldsOf (getD (now (l .before .before .before .args .words)) (l .loop .i) 0)))
+    let word = getD (now (l .before .before .before .args .words)) (l .loop .i) 0 in
+    let line = wrote-line (l .loop .i) word (omega arith) (omega arith) (c .before .before .put-line .ensures) in
+    omega (arith, line .behind, line-le (l .loop .i) (fieldsOf word))
 
 slice-aggregate-put : tie.Need-slice-aggregate-put Inv-loop μ-loop
 slice-aggregate-put c = let l = c .before .before .before .before .before .before .before in
-    let at-most = line-le (l .loop .i) (fieldsOf (getD (now (l .before .before .before .args .words)) (l .loop .i) 0)) in
-    sym (length-take-le (c .before .before .before .put-line .result) (c .before .before .before .put-line .last .0) (omega arith))
+    let word = getD (now (l .before .before .before .args .words)) (l .loop .i) 0 in
+    let line = wrote-line (l .loop .i) word (omega arith) (omega arith) (c .before .before .before .put-line .ensures) in
+    let at-most = line-le (l .loop .i) (fieldsOf word) in
+    sym (length-take-le (c .before .before .before .put-line .result) (c .before .before .before .put-line .last .0) (omega (arith, line .behind)))
 
 put-requires : tie.Need-put-requires Inv-loop μ-loop
-put-requires c κs = let l = c .before .before .before .before .before .before .before in
-    let words = now (l .before .before .before .args .words) in
-    let at-most = line-le (l .loop .i) (fieldsOf (getD words (l .loop .i) 0)) in
-    let n = length-take-le (c .before .before .before .put-line .result) (c .before .before .before .put-line .last .0) (omega arith) in
-    omega (arith, lines-length words (l .loop .i) (c .before .before .before .before .before .before .loop-test .taken))
+put-requires c κs = search needs
 
 add-i : tie.Need-add-i Inv-loop μ-loop
 add-i c = omega arith
@@ -67,14 +68,16 @@ loop-again : tie.Need-loop-again Inv-loop μ-loop
 loop-again c = let l = c .before .before .before .before .before .before .before .before .before .before in
     let words = now (l .before .before .before .args .words) in
     let i = l .loop .i in
+    let inside = c .before .before .before .before .before .before .before .before .before .loop-test .taken in
     let at-most = line-le i (fieldsOf (getD words i 0)) in
-    let wrote = same-text (at-start (c .before .before .before .before .before .before .put-line .ensures) (omega arith)) (c .before .before .put .ensures) in (
+    let start = at-start (wrote-line i (getD words i 0) (omega arith) (omega arith) (c .before .before .before .before .before .before .put-line .ensures)) (omega arith) in
+    let laid = same-text start (wrote (omega (arith, ap length start, lines-length words i inside)) (c .before .before .put .ensures)) in (
       omega arith,
       c .before .before .before .before .before .before .put-line .kept .0 ∙ l .loop .inv .1,
       c .before .before .put .kept .0 ∙ l .loop .inv .2,
-      omega (arith, wrote .behind, lines-length words i (c .before .before .before .before .before .before .before .before .before .loop-test .taken)),
-      stored-on wrote (lines (i + 1) (drop (i + 1) words))
-          ∙ ap (λ (text : List ℕ). sets (l .loop .room) (l .loop .at) text) (sym (lines-next words i (c .before .before .before .before .before .before .before .before .before .loop-test .taken)))
+      omega (arith, laid .behind, lines-length words i inside),
+      stored-on laid (lines (i + 1) (drop (i + 1) words))
+          ∙ ap (λ (text : List ℕ). sets (l .loop .room) (l .loop .at) text) (sym (lines-next words i inside))
           ∙ l .loop .inv .4,
     )
 
