@@ -17,7 +17,7 @@ use Rattle.token.specs.Text.{bytes}
 use Rattle.part.specs.Grammar.{registers}
 use Rattle.room.specs.Laid.{Laid, Wrote}
 use Rattle.room.proofs.Laws.{wrote, laid-stored}
-use Rattle.microline.specs.Pieces.{Small, stores, destinations, signsBefore, signsBehind, ends, seconds, transfers, jumpWords, table, texts, starts, Chosen, spelt, Known, Spells, to, second, parts, target}
+use Rattle.microline.specs.Pieces.{Small, stores, destinations, signsBefore, signsBehind, ends, seconds, transfers, jumpWords, table, texts, starts, Chosen, spelt, Known, Spells, to, first, second, parts, target}
 use Rattle.microline.specs.Line.{laidLine}
 
 -- The text k starts and ends inside, and is this one.
@@ -52,7 +52,7 @@ pub table-entry : (all begins : List ℕ) (k : ℕ) → all ≡ texts table → 
 unfolding table destinations signsBefore signsBehind seconds transfers jumpWords
 table-entry all begins k e f h = rw (e, f) (entry [] table k h)
 
-pub texts-known : (all : List ℕ) → all ≡ texts table → length all ≡ 160
+pub texts-known : (all : List ℕ) → all ≡ texts table → length all ≡ 157
 unfolding texts table destinations signsBefore signsBehind seconds transfers jumpWords
 texts-known all e = ap length e
 
@@ -80,17 +80,21 @@ small w =
     }
 
 -- What F computes with the semicolon, as the code puts it.
+twice : (text : List ℕ) → text ≡ text ++ [] ++ []
+twice text = sym (append-nil (text ++ []) ∙ append-nil text)
+
 formula-pieces : (f : ℕ) (a b : List ℕ) → f < 8
-    → getD (formulas a b) f [] ++ bytes ";" ≡ getD signsBefore f [] ++ a ++ getD signsBehind f [] ++ cond (eqb f 3 || eqb f 4 || eqb f 5) (ends b) []
+    → getD (formulas a b) f [] ++ bytes ";"
+    ≡ getD signsBefore f [] ++ cond (eqb f 0 || eqb f 6 || eqb f 7) (ends a) a ++ getD signsBehind f [] ++ cond (eqb f 3 || eqb f 4 || eqb f 5) (ends b) []
 unfolding formulas signsBefore signsBehind
-formula-pieces zero a b h = sym (append-nil (a ++ bytes ";"))
+formula-pieces zero a b h = twice (a ++ bytes ";")
 formula-pieces (suc zero) a b h = append-assoc a (bytes "+1") (bytes ";") ∙ sym (append-nil (a ++ bytes "+1;"))
 formula-pieces (suc (suc zero)) a b h = append-assoc a (bytes "-1") (bytes ";") ∙ sym (append-nil (a ++ bytes "-1;"))
 formula-pieces (suc (suc (suc zero))) a b h = append-assoc (a ++ bytes "+") b (bytes ";")
 formula-pieces (suc (suc (suc (suc zero)))) a b h = append-assoc (a ++ bytes "-") b (bytes ";")
 formula-pieces (suc (suc (suc (suc (suc zero))))) a b h = append-assoc (a ++ bytes "^") b (bytes ";")
-formula-pieces (suc (suc (suc (suc (suc (suc zero)))))) a b h = sym (append-nil (bytes "<<" ++ a ++ bytes ";"))
-formula-pieces (suc (suc (suc (suc (suc (suc (suc zero))))))) a b h = sym (append-nil (bytes ">>" ++ a ++ bytes ";"))
+formula-pieces (suc (suc (suc (suc (suc (suc zero)))))) a b h = twice (bytes "<<" ++ a ++ bytes ";")
+formula-pieces (suc (suc (suc (suc (suc (suc (suc zero))))))) a b h = twice (bytes ">>" ++ a ++ bytes ";")
 formula-pieces (suc (suc (suc (suc (suc (suc (suc (suc f)))))))) a b h = absurd (omega arith)
 
 -- A piece of each list of the table.
@@ -113,9 +117,9 @@ before-at : (f : ℕ) → f < 8 → getD table (9 + f) [] ≡ getD signsBefore f
 unfolding table destinations signsBefore
 before-at f h = in-table 9 signsBefore f refl h
 
-register-at : (r : ℕ) → r < 8 → getD table (17 + r) [] ≡ register r
+pub chosen-register : (r : ℕ) → r < 8 → Chosen (17 + r) (register r)
 unfolding table destinations signsBefore
-register-at r h = in-table 17 registers r refl h
+chosen-register r h = record { known = omega arith; same = in-table 17 registers r refl h }
 
 behind-at : (f : ℕ) → f < 8 → getD table (25 + f) [] ≡ getD signsBehind f []
 unfolding table destinations signsBefore signsBehind
@@ -134,15 +138,16 @@ joined gap sign stop d formula before a behind last move jump e =
     let back : gap ++ d ++ sign ++ (formula ++ stop) ++ move ++ jump ≡ gap ++ (d ++ sign ++ formula) ++ stop ++ move ++ jump = simp append-assoc in
     regroup ∙ ap (λ (t : List ℕ). gap ++ d ++ sign ++ t ++ move ++ jump) (sym e) ∙ back
 
-pub spells-all : (m : Fields) (store last move : ℕ) → Small m → idle m ≡ false → Chosen store (to m) → Chosen last (second m) → Chosen move (transferPart m)
-    → Spells (store ∷ (9 + m .f) ∷ (17 + m .a) ∷ (25 + m .f) ∷ last ∷ move ∷ (43 + m .sq) ∷ []) (parts m)
+pub spells-all : (m : Fields) (store one last move : ℕ) → Small m → idle m ≡ false → Chosen store (to m) → Chosen one (first m) → Chosen last (second m)
+    → Chosen move (transferPart m)
+    → Spells (store ∷ (9 + m .f) ∷ one ∷ (25 + m .f) ∷ last ∷ move ∷ (43 + m .sq) ∷ []) (parts m)
 unfolding spelt Known operation binary parts
-spells-all m store last move s busy t l v =
+spells-all m store one last move s busy t o l v =
     record {
-      known = (t .known, (omega (arith, s .f), (omega (arith, s .a), (omega (arith, s .f), (l .known, (v .known, (omega (arith, s .sq), tt)))))));
+      known = (t .known, (omega (arith, s .f), (o .known, (omega (arith, s .f), (l .known, (v .known, (omega (arith, s .sq), tt)))))));
       same =
-          rw (t .same, before-at (m .f) (s .f), register-at (m .a) (s .a), behind-at (m .f) (s .f), l .same, v .same, jump-at (m .sq) (s .sq), busy)
-          (joined (bytes " ") (bytes ":=") (bytes ";") (destination m) (formula m) (getD signsBefore (m .f) []) (register (m .a)) (getD signsBehind (m .f) [])
+          rw (t .same, before-at (m .f) (s .f), o .same, behind-at (m .f) (s .f), l .same, v .same, jump-at (m .sq) (s .sq), busy)
+          (joined (bytes " ") (bytes ":=") (bytes ";") (destination m) (formula m) (getD signsBefore (m .f) []) (first m) (getD signsBehind (m .f) [])
           (second m) (transferPart m) (getD jumpWords (m .sq) []) (formula-pieces (m .f) (register (m .a)) (register (m .b)) (s .f)));
     }
 

@@ -1,7 +1,7 @@
 -- The pieces that a line is put together from, as they stand in the code's table, and what a choice of them spells.
 use Prim.Native.Nat.{ℕ, _+_, _<_}
 use mathlib.Core.Path.{_≡_}
-use mathlib.Core.Bool.{cond}
+use mathlib.Core.Bool.{cond, _||_}
 use mathlib.Core.List.{List, [], _∷_, _++_, map}
 use lib.Dec.{eqb}
 use lib.ListN.{length, getD}
@@ -27,14 +27,14 @@ stores name = bytes " " ++ name ++ bytes ":="
 unfoldable pub destinations : List (List ℕ)
 destinations = map stores (registers ++ bytes "alu" ∷ [])
 
--- What stands before the register a, by F, and what stands behind it, with the operation's semicolon where F takes no b.
+-- What stands before the register a, by F, and what stands behind it, with the operation's semicolon behind a number.
 unfoldable pub signsBefore : List (List ℕ)
 signsBefore = [] ∷ [] ∷ [] ∷ [] ∷ [] ∷ [] ∷ bytes "<<" ∷ bytes ">>" ∷ []
 
 unfoldable pub signsBehind : List (List ℕ)
-signsBehind = bytes ";" ∷ bytes "+1;" ∷ bytes "-1;" ∷ bytes "+" ∷ bytes "-" ∷ bytes "^" ∷ bytes ";" ∷ bytes ";" ∷ []
+signsBehind = [] ∷ bytes "+1;" ∷ bytes "-1;" ∷ bytes "+" ∷ bytes "-" ∷ bytes "^" ∷ [] ∷ [] ∷ []
 
--- The register b with the operation's semicolon.
+-- A register with the operation's semicolon.
 abbrev pub ends : List ℕ → List ℕ
 ends name = name ++ bytes ";"
 
@@ -79,9 +79,13 @@ pub record Spells (which : List ℕ) (text : List ℕ) : Type 0 where
   pub known : Known which
   pub same : spelt which ≡ text
 
--- The pieces of an operation that a test chooses: where it stores, and the register b, where F takes one.
+-- The pieces of an operation that a test chooses: where it stores, the register a, with the semicolon
+-- where nothing stands behind it, and the register b, where F takes one.
 abbrev pub to : Fields → List ℕ
 to m = stores (destination m)
+
+abbrev pub first : Fields → List ℕ
+first m = cond (eqb (m .f) 0 || eqb (m .f) 6 || eqb (m .f) 7) (ends (register (m .a))) (register (m .a))
 
 abbrev pub second : Fields → List ℕ
 second m = cond (binary m) (ends (register (m .b))) []

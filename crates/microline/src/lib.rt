@@ -5,13 +5,13 @@ ghost use Prim.Native.Nat.{_+_, _<_, _≤_};
 ghost use lib.ListN.{length};
 ghost use Rattle.microtext.specs.Listing.{decimal, transferPart};
 ghost use Rattle.room.specs.Laid.{Wrote};
-ghost use Rattle.microline.specs.Pieces.{Small, table, Chosen, spelt, Known, Spells, to, second, target, texts as Pieces·texts, starts as Pieces·starts, parts as Pieces·parts};
+ghost use Rattle.microline.specs.Pieces.{Small, table, Chosen, spelt, Known, Spells, to, first, second, target, texts as Pieces·texts, starts as Pieces·starts, parts as Pieces·parts};
 ghost use Rattle.microline.specs.Line.{laidLine};
 use microword::Fields;
 use microword::fields_of;
 
 // Where each kind of piece begins in the table: the signs before the register a by F, registers, the signs behind it by F,
-// the registers b with their semicolon, transfers, and the words of a jump by SQ, the first of which is empty. Destinations stand first.
+// registers with the semicolon, transfers, and the words of a jump by SQ, the first of which is empty. Destinations stand first.
 const BEFORE: usize = 9;
 
 const REGISTERS: usize = 17;
@@ -52,28 +52,28 @@ const STARTS: [u8; 48] = [
     68,
     71,
     74,
-    75,
-    78,
+    74,
+    77,
+    80,
     81,
     82,
     83,
-    84,
-    85,
+    83,
+    83,
     86,
     89,
     92,
     95,
     98,
-    101,
-    106,
-    110,
-    114,
-    118,
-    122,
-    122,
-    138,
-    154,
-    160,
+    103,
+    107,
+    111,
+    115,
+    119,
+    119,
+    135,
+    151,
+    157,
 ];
 
 // Pieces of the table, one behind the other: the table's text, where each piece starts in it, and which pieces.
@@ -103,6 +103,18 @@ fn destination(m: Fields) -> usize
         return 8;
     }
     m.s as usize
+}
+
+// The register a, with the operation's semicolon where nothing stands behind it.
+fn first_of(m: Fields) -> usize
+    requires { ⌜ Small m ⌝ }
+    ensures { λ r. ⌜ Chosen r (first m) ⌝ }
+{
+    let f = m.f;
+    if (f == 0) | (f == 6) | (f == 7) {
+        return SECONDS + m.a as usize;
+    }
+    REGISTERS + m.a as usize
 }
 
 // The register b with the operation's semicolon, where F takes one.
@@ -144,9 +156,16 @@ fn parts(m: Fields) -> [usize; 7]
     }
     let f = m.f as usize;
     let before = BEFORE + f;
-    let a = REGISTERS + m.a as usize;
     let behind = BEHIND + f;
-    [destination(m), before, a, behind, second_of(m), moved, jump]
+    [
+        destination(m),
+        before,
+        first_of(m),
+        behind,
+        second_of(m),
+        moved,
+        jump,
+    ]
 }
 
 // A word's parts up to a jump's target.
@@ -158,7 +177,7 @@ fn put_parts(room: &mut [u8], at: usize, m: Fields) -> usize
     put_pieces(
         room,
         at,
-        b" cp:= ac:= pp:= ri:= rt:= masc:= rem:= rdm:= alu:=<<>>cpacpprirtmascremrdm;+1;-1;+-^;;cp;ac;pp;ri;rt;masc;rem;rdm; rd; wr; if n then goto  if z then goto  goto ",
+        b" cp:= ac:= pp:= ri:= rt:= masc:= rem:= rdm:= alu:=<<>>cpacpprirtmascremrdm+1;-1;+-^cp;ac;pp;ri;rt;masc;rem;rdm; rd; wr; if n then goto  if z then goto  goto ",
         &STARTS,
         &which,
     )

@@ -25,17 +25,14 @@ cast-f c = search needs
 add-before : tie.Need-add-before
 add-before c = search needs
 
-cast-a : tie.Need-cast-a
-cast-a c = search needs
-
-add-a : tie.Need-add-a
-add-a c = search needs
-
 add-behind : tie.Need-add-behind
 add-behind c = search needs
 
 destination-requires : tie.Need-destination-requires
 destination-requires c κs = search needs
+
+first-of-requires : tie.Need-first-of-requires
+first-of-requires c κs = search needs
 
 second-of-requires : tie.Need-second-of-requires
 second-of-requires c κs = search needs
@@ -43,7 +40,7 @@ second-of-requires c κs = search needs
 returns-2 : tie.Need-returns-2
 unfolding idle
 returns-2 c = let t = c .before .before .before .before .before .before in
-    spells-all _ _ _ _ (t .before .pre) (c .before .before .before .before .if1 .left) (c .before .destination .ensures) (c .second-of .ensures) (t .transfer .ensures)
+    spells-all _ _ _ _ _ (t .before .pre) (c .before .before .before .before .if1 .left) (c .before .before .destination .ensures) (c .before .first-of .ensures) (c .second-of .ensures) (t .transfer .ensures)
 
 pub parts-spec : {M : Type 1} → statement M
 parts-spec =
@@ -55,9 +52,8 @@ parts-spec =
     returns
     cast-f
     add-before
-    cast-a
-    add-a
     add-behind
     destination-requires
+    first-of-requires
     second-of-requires
     returns-2)
