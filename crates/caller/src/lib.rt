@@ -97,8 +97,8 @@ pub fn hand_back_engine(
 {
     let answer = ran.answer;
     let machine = ran.machine;
-    *told = [ran.done as usize, answers::line_of_engine(answer)];
-    let number = answers::of_engine(answer);
+    *told = [ran.done as usize, run_answers::line_of_engine(answer)];
+    let number = run_answers::of_engine(answer);
     put_machine(number, machine, registers, state);
     number
 }
@@ -109,7 +109,7 @@ pub fn counted(pressed: Pressed) -> Ran
 {
     let answer = pressed.answer;
     let machine = pressed.machine;
-    let number = answers::of_engine(answer);
+    let number = run_answers::of_engine(answer);
     Ran {
         machine,
         done: (number == 0) as u32,
@@ -146,5 +146,5 @@ pub fn hand_back_interpreter(
     *state = [cpu.place, cpu.count];
     *told = [ran.done as u64, ran.cycles];
     let answer = ran.answer;
-    answers::of_interpreter(answer)
+    run_answers::of_interpreter(answer)
 }

@@ -68,7 +68,7 @@ pub extern "C" fn facetgrove_assemble(text: &[u8], store: &mut [u32]) -> u32
     ensures { λ r. ⌜ assembled (now (text .entry)) (now (store .entry)) ≡ record { answer = r; store = now (store .exit) } ⌝ }
 {
     let answer = assembler::assemble(text, store);
-    answers::of_assembler(answer)
+    text_answers::of_assembler(answer)
 }
 
 // A control store's listing, at the start of the room.
@@ -78,8 +78,8 @@ pub extern "C" fn facetgrove_list(store: &[u32], room: &mut [u8], told: &mut [us
 {
     let listed = lister::list(store, room);
     let answer = listed.answer;
-    *told = [listed.length, answers::line_of_lister(answer)];
-    answers::of_lister(answer)
+    *told = [listed.length, text_answers::line_of_lister(answer)];
+    text_answers::of_lister(answer)
 }
 
 // An image to a memory.
@@ -88,7 +88,7 @@ pub extern "C" fn facetgrove_image_read(image: &[u8], memory: &mut [u16]) -> u32
     ensures { λ r. ⌜ reading (now (image .entry)) (now (memory .entry)) ≡ record { answer = r; memory = now (memory .exit) } ⌝ }
 {
     let answer = image::read(image, memory);
-    answers::of_image(answer)
+    text_answers::of_image(answer)
 }
 
 // A memory's image, at the start of the room.
@@ -103,7 +103,7 @@ pub extern "C" fn facetgrove_image_write(
     let written = image::write(memory, room);
     let answer = written.answer;
     *length = [written.length];
-    answers::of_image(answer)
+    text_answers::of_image(answer)
 }
 
 // The printed microprogram.

@@ -33,7 +33,7 @@ fn run_memory(memory: &mut [u16], room: &mut [u8]) -> usize
     let cp = cpu.cp;
     let pp = cpu.pp;
     let run = Run {
-        answer: answers::of_interpreter(answer),
+        answer: run_answers::of_interpreter(answer),
         done: end.done,
         cycles: end.cycles,
         cp,
@@ -55,7 +55,7 @@ fn text(input: &[u8], room: &mut [u8]) -> usize
     }
     let mut memory = [0u16; 4096];
     let read = image::read(input, &mut memory);
-    let answer = answers::of_image(read);
+    let answer = text_answers::of_image(read);
     if answer != 0 {
         return console::refusal(answer, room);
     }

@@ -8,8 +8,8 @@ use Rattle.engine.specs.Run.{saying}
 use Rattle.engine.specs.declared.Answer.{Answer}
 use Rattle.engine.specs.declared.Answer.the-variants.{Done, Sizes, Places, Ranges, BadWord, LogFull}
 use Rattle.engine.proofs.Answer as Cases
-use Rattle.answers.proofs.line_of_engine.Statement.{statement}
-use Rattle.answers.proofs.line_of_engine.Tie as tie
+use Rattle.run_answers.proofs.line_of_engine.Statement.{statement}
+use Rattle.run_answers.proofs.line_of_engine.Tie as tie
 
 unnamed : (a : Answer) → OneOf (0 ∷ 1 ∷ 2 ∷ 3 ∷ 5 ∷ []) (tagOf Cases.the-type a) → 0 ≡ saying a .line
 unfolding saying

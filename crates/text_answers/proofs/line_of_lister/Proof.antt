@@ -8,8 +8,8 @@ use Rattle.lister.specs.Answers.{named}
 use Rattle.lister.specs.declared.Answer.{Answer}
 use Rattle.lister.specs.declared.Answer.the-variants.{Done, WrongStore, SmallRoom, BadWord, PastRoom}
 use Rattle.lister.proofs.Answer as Cases
-use Rattle.answers.proofs.line_of_lister.Statement.{statement}
-use Rattle.answers.proofs.line_of_lister.Tie as tie
+use Rattle.text_answers.proofs.line_of_lister.Statement.{statement}
+use Rattle.text_answers.proofs.line_of_lister.Tie as tie
 
 unnamed : (a : Answer) → OneOf (0 ∷ 1 ∷ 2 ∷ 4 ∷ []) (tagOf Cases.the-type a) → 0 ≡ named a
 unnamed Done other = refl

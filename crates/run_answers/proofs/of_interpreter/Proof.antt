@@ -1,8 +1,8 @@
--- `of_engine` gives each answer its number.
+-- `of_interpreter` gives each answer its number.
 use borrow.Author.Needs.{needs}
-use Rattle.engine.specs.Run.{saying}
-use Rattle.answers.proofs.of_engine.Statement.{statement}
-use Rattle.answers.proofs.of_engine.Tie as tie
+use Rattle.interpreter.specs.Run.{number}
+use Rattle.run_answers.proofs.of_interpreter.Statement.{statement}
+use Rattle.run_answers.proofs.of_interpreter.Tie as tie
 
 enum-told : tie.Need-enum-told
 enum-told c = search needs
@@ -19,35 +19,28 @@ enum-told-4 c = search needs
 enum-told-5 : tie.Need-enum-told-5
 enum-told-5 c = search needs
 
-enum-told-6 : tie.Need-enum-told-6
-enum-told-6 c = search needs
-
 returns : tie.Need-returns
-unfolding saying
+unfolding number
 returns c = rw (c .enum-told .given .1)
 
 returns-2 : tie.Need-returns-2
-unfolding saying
+unfolding number
 returns-2 c = rw (c .enum-told2 .given .1)
 
 returns-3 : tie.Need-returns-3
-unfolding saying
+unfolding number
 returns-3 c = rw (c .enum-told3 .given .1)
 
 returns-4 : tie.Need-returns-4
-unfolding saying
+unfolding number
 returns-4 c = rw (c .enum-told4 .given .1)
 
 returns-5 : tie.Need-returns-5
-unfolding saying
+unfolding number
 returns-5 c = rw (c .enum-told5 .given .1)
 
-returns-6 : tie.Need-returns-6
-unfolding saying
-returns-6 c = rw (c .enum-told6 .given .1)
-
-pub of-engine-spec : {M : Type 1} → statement M
-of-engine-spec =
+pub of-interpreter-spec : {M : Type 1} → statement M
+of-interpreter-spec =
     tie.close
     (tie.spec
     enum-told
@@ -55,10 +48,8 @@ of-engine-spec =
     enum-told-3
     enum-told-4
     enum-told-5
-    enum-told-6
     returns
     returns-2
     returns-3
     returns-4
-    returns-5
-    returns-6)
+    returns-5)

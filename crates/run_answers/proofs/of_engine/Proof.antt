@@ -1,8 +1,8 @@
--- `of_interpreter` gives each answer its number.
+-- `of_engine` gives each answer its number.
 use borrow.Author.Needs.{needs}
-use Rattle.interpreter.specs.Run.{number}
-use Rattle.answers.proofs.of_interpreter.Statement.{statement}
-use Rattle.answers.proofs.of_interpreter.Tie as tie
+use Rattle.engine.specs.Run.{saying}
+use Rattle.run_answers.proofs.of_engine.Statement.{statement}
+use Rattle.run_answers.proofs.of_engine.Tie as tie
 
 enum-told : tie.Need-enum-told
 enum-told c = search needs
@@ -19,28 +19,35 @@ enum-told-4 c = search needs
 enum-told-5 : tie.Need-enum-told-5
 enum-told-5 c = search needs
 
+enum-told-6 : tie.Need-enum-told-6
+enum-told-6 c = search needs
+
 returns : tie.Need-returns
-unfolding number
+unfolding saying
 returns c = rw (c .enum-told .given .1)
 
 returns-2 : tie.Need-returns-2
-unfolding number
+unfolding saying
 returns-2 c = rw (c .enum-told2 .given .1)
 
 returns-3 : tie.Need-returns-3
-unfolding number
+unfolding saying
 returns-3 c = rw (c .enum-told3 .given .1)
 
 returns-4 : tie.Need-returns-4
-unfolding number
+unfolding saying
 returns-4 c = rw (c .enum-told4 .given .1)
 
 returns-5 : tie.Need-returns-5
-unfolding number
+unfolding saying
 returns-5 c = rw (c .enum-told5 .given .1)
 
-pub of-interpreter-spec : {M : Type 1} → statement M
-of-interpreter-spec =
+returns-6 : tie.Need-returns-6
+unfolding saying
+returns-6 c = rw (c .enum-told6 .given .1)
+
+pub of-engine-spec : {M : Type 1} → statement M
+of-engine-spec =
     tie.close
     (tie.spec
     enum-told
@@ -48,8 +55,10 @@ of-interpreter-spec =
     enum-told-3
     enum-told-4
     enum-told-5
+    enum-told-6
     returns
     returns-2
     returns-3
     returns-4
-    returns-5)
+    returns-5
+    returns-6)
