@@ -1,5 +1,5 @@
 -- Laws of a cycle: what it comes to from its store on, what a refused one leaves, where it ends, and no second answer.
-use Prim.Native.Nat.{ℕ, _+_, _<_}
+use Prim.Native.Nat.{ℕ, _+_, _^_, _<_}
 use mathlib.Core.Path.{_≡_, refl, sym, _∙_, ap, subst}
 use mathlib.Core.Bool.{Bool, true, false, cond, not, _&&_, true≢false}
 use mathlib.Core.List.{List}
@@ -12,11 +12,11 @@ use Rattle.datapath.specs.Transfer.{Transfer, moved, waits, transferred, leftIn
 use Rattle.datapath.proofs.Laws.{transfer-refused, rdm-stays}
 use Rattle.bus.specs.Ports.{Left}
 use Rattle.microword.specs.declared.Fields.{Fields}
-use Rattle.microword.specs.Microword.{fieldsOf}
-use Rattle.microword.proofs.Laws.{Within, fields-within}
+use Rattle.microword.specs.Microword.{Layout, fieldsOf}
+use Rattle.microword.proofs.Laws.{WithinBy, Within, fields-within}
 use Rattle.word.proofs.Laws.{kept-below}
-use Rattle.cycle.specs.Cycle.{State, Cycled, result, stored, found, transfer, target, nextLine, arrived, driven, settled, cycleOf}
-use Rattle.cycle.specs.Standing.{stepped, Beginning, beginning}
+use Rattle.cycle.specs.Cycle.{State, Cycled, result, stored, found, transfer, target, nextLine, arrived, driven, settled, cycleOn}
+use Rattle.cycle.specs.Standing.{stepped, Beginning, beginningOn, beginning}
 use Rattle.cycle.specs.declared.Stepped.{Stepped}
 
 -- No second answer: a cycle's promise fixes what it hands back and all three lent lists.
@@ -38,20 +38,23 @@ restored m value registers true e = rw (e, set-set) (set-getD registers (m .s) 0
 restored m value registers false e = rw e (set-getD registers (m .s) 0)
 
 -- The fields that a cycle goes by are below their bounds.
+pub small-by : (l : Layout) (bits : ℕ) (m : Fields) (line : ℕ) (registers : List ℕ) {b : Beginning} → WithinBy l m → beginningOn bits m line registers ≡ b → WithinBy l (b .fields)
+unfolding beginningOn
+small-by l bits m line registers w first = subst (λ (x : Beginning). WithinBy l (x .fields)) first w
+
 pub small : (word line : ℕ) (registers : List ℕ) {b : Beginning} → beginning word line registers ≡ b → Within (b .fields)
-unfolding beginning
+unfolding beginningOn
 small word line registers first = subst (λ (x : Beginning). Within (x .fields)) first (fields-within word)
 
 -- A cycle from its store on, by what its transfer comes to.
-module _ (word : ℕ) (input : List ℕ) (s : State) {b : Beginning} (first : beginning word (s .line) (s .registers) ≡ b) where
-  goes-on : cycleOf word input s ≡ settled s (arrived (b .next) (b .registers) (transfer (b .fields) input (b .registers) s))
-  unfolding cycleOf driven beginning
+module _ (bits : ℕ) (m : Fields) (input : List ℕ) (s : State) {b : Beginning} (first : beginningOn bits m (s .line) (s .registers) ≡ b) where
+  goes-on : cycleOn bits m input s ≡ settled s (arrived (b .next) (b .registers) (transfer (b .fields) input (b .registers) s))
+  unfolding cycleOn driven beginningOn
   goes-on = ap (λ (x : Beginning). settled s (arrived (x .next) (x .registers) (transfer (x .fields) input (x .registers) s))) first
 
   put-back : set (b .registers) (b .fields .s) (b .stood) ≡ s .registers
-  unfolding beginning
+  unfolding beginningOn
   put-back =
-      let m : Fields = fieldsOf word in
       subst (λ (x : Beginning). set (x .registers) (x .fields .s) (x .stood) ≡ s .registers) first
       (restored m (result m (s .registers)) (s .registers) (eqb (m .hs) 1) refl)
 
@@ -64,14 +67,14 @@ module _ (word : ℕ) (input : List ℕ) (s : State) {b : Beginning} (first : be
         rw w (sym (set-getD (b .registers) 7 0))
 
     pub carried : r .full ≡ false
-        → cycleOf word input s
+        → cycleOn bits m input s
         ≡ record { next = record { line = b .next; registers = cond (eqb (b .fields .rd) 1) (set (b .registers) 7 (r .rdm)) (b .registers); half = r .half; place = r .place; count = r .count; memory = memory; log = log }; full = false }
     unfolding settled transfer
     carried f = rw (goes-on, moves, f, same-rdm _ refl)
 
     -- A refused transfer leaves memory and log as they were.
     pub refused : r .full ≡ true
-        → cycleOf word input s
+        → cycleOn bits m input s
         ≡ record { next = record { line = s .line; registers = set (b .registers) (b .fields .s) (b .stood); half = s .half; place = s .place; count = s .count; memory = memory; log = log }; full = true }
     unfolding settled transfer
     refused f =
@@ -81,7 +84,7 @@ module _ (word : ℕ) (input : List ℕ) (s : State) {b : Beginning} (first : be
 
   -- Without RD and WR nothing is transferred, and RDM is what stands there.
   pub rests : (not (eqb (b .fields .rd) 1) && not (eqb (b .fields .wr) 1)) ≡ true
-      → cycleOf word input s
+      → cycleOn bits m input s
       ≡ record { next = record { line = b .next; registers = b .registers; half = Nothing; place = s .place; count = s .count; memory = s .memory; log = s .log }; full = false }
   unfolding settled transfer transferred waits
   rests e =
@@ -102,15 +105,14 @@ settled-keeps P s c h g = by (c .full)
     by true = h
     by false = g
 
--- A cycle that starts at one of the 64 lines ends at one.
-pub target-within : (m : Fields) (jump : Bool) (line : ℕ) → m .end < 64 → target m jump line < 64
+-- A cycle that starts at one of the lines ends at one.
+pub target-within : (bits : ℕ) (m : Fields) (jump : Bool) (line : ℕ) → m .end < 2 ^ bits → target bits m jump line < 2 ^ bits
 unfolding target
-target-within m true line h = h
-target-within m false line h = kept-below 6 (line + 1)
+target-within bits m true line h = h
+target-within bits m false line h = kept-below bits (line + 1)
 
-pub line-within : (word : ℕ) (input : List ℕ) (s : State) {a : Cycled} → s .line < 64 → cycleOf word input s ≡ a → a .next .line < 64
-unfolding cycleOf driven nextLine
-line-within word input s h e =
-    let m : Fields = fieldsOf word in
-    subst (λ (c : Cycled). c .next .line < 64) e
-    (settled-keeps (λ t. t .line < 64) s (driven m input s) h (target-within m _ (s .line) (fields-within word .end)))
+pub line-within : (bits : ℕ) (m : Fields) (input : List ℕ) (s : State) {a : Cycled} → m .end < 2 ^ bits → s .line < 2 ^ bits → cycleOn bits m input s ≡ a → a .next .line < 2 ^ bits
+unfolding cycleOn driven nextLine
+line-within bits m input s w h e =
+    subst (λ (c : Cycled). c .next .line < 2 ^ bits) e
+    (settled-keeps (λ t. t .line < 2 ^ bits) s (driven bits m input s) h (target-within bits m _ (s .line) w))

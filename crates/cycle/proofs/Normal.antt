@@ -10,7 +10,7 @@ use Rattle.datapath.specs.Result.{alu, negative, isZero, jumps, keeps}
 use Rattle.microword.specs.declared.Fields.{Fields}
 use Rattle.microword.specs.Microword.{fieldsOf, idle, binary, normalFields, normalForm}
 use Rattle.microword.proofs.Laws.{fields-within, normal-fields}
-use Rattle.cycle.specs.Cycle.{State, result, stored, transfer, target, nextLine, driven, cycleOf}
+use Rattle.cycle.specs.Cycle.{State, result, stored, transfer, target, nextLine, driven, cycleOn, cycleOf}
 
 -- F other than 3, 4 and 5 does not ask for B.
 unary : (f a b b′ : ℕ) → (eqb f 3 || eqb f 4 || eqb f 5) ≡ false → alu f a b ≡ alu f a b′
@@ -44,13 +44,13 @@ same-stored m value registers h = by (eqb (m .hs) 0) refl
     by false e = refl
 
 -- Where SQ is 0 no jump asks for END, and else END stands.
-same-line : (m : Fields) (value line : ℕ) → nextLine (normalFields m) value line ≡ nextLine m value line
+same-line : (bits : ℕ) (m : Fields) (value line : ℕ) → nextLine bits (normalFields m) value line ≡ nextLine bits m value line
 unfolding nextLine target jumps normalFields
-same-line m value line = by (eqb (m .sq) 0) refl
+same-line bits m value line = by (eqb (m .sq) 0) refl
   where
     by : (none : Bool) → eqb (m .sq) 0 ≡ none
-        → target (record { a = 0; b = 0; s = 0; hs = 0; f = 0; rd = 0; wr = 0; sq = 0; end = cond none 0 (m .end) }) (jumps (m .sq) (negative value) (isZero value)) line
-        ≡ target m (jumps (m .sq) (negative value) (isZero value)) line
+        → target bits (record { a = 0; b = 0; s = 0; hs = 0; f = 0; rd = 0; wr = 0; sq = 0; end = cond none 0 (m .end) }) (jumps (m .sq) (negative value) (isZero value)) line
+        ≡ target bits m (jumps (m .sq) (negative value) (isZero value)) line
     by true e = rw e
     by false e = refl
 
@@ -67,36 +67,36 @@ module _ (m : Fields) (quiet : idle m ≡ true) where
   unfolding stored
   idle-stored value value′ registers = rw no-store
 
-  idle-line : (value value′ line : ℕ) → nextLine m value line ≡ nextLine m value′ line
+  idle-line : (bits value value′ line : ℕ) → nextLine bits m value line ≡ nextLine bits m value′ line
   unfolding nextLine jumps
-  idle-line value value′ line = by (eqb (m .hs) 0) (eqb (m .sq) 0) (eqb (m .sq) 3) refl refl (unfold idle in quiet)
+  idle-line bits value value′ line = by (eqb (m .hs) 0) (eqb (m .sq) 0) (eqb (m .sq) 3) refl refl (unfold idle in quiet)
     where
       by : (off none all : Bool) → eqb (m .sq) 0 ≡ none → eqb (m .sq) 3 ≡ all → (off && (none || all)) ≡ true
-          → target m (jumps (m .sq) (negative value) (isZero value)) line ≡ target m (jumps (m .sq) (negative value′) (isZero value′)) line
+          → target bits m (jumps (m .sq) (negative value) (isZero value)) line ≡ target bits m (jumps (m .sq) (negative value′) (isZero value′)) line
       by false none all p q e = absurd (true≢false (sym e))
       by true true all p q e = rw p
       by true false true p q e = let z : m .sq ≡ 3 = eqb-true (m .sq) 3 q in rw z
       by true false false p q e = absurd (true≢false (sym e))
 
-same-driven : (m : Fields) → m .hs < 2 → (input : List ℕ) (s : State) (quiet : Bool) → idle m ≡ quiet → driven (normalFields m) input s ≡ driven m input s
+same-driven : (bits : ℕ) (m : Fields) → m .hs < 2 → (input : List ℕ) (s : State) (quiet : Bool) → idle m ≡ quiet → driven bits (normalFields m) input s ≡ driven bits m input s
 unfolding driven
-same-driven m h input s quiet q =
+same-driven bits m h input s quiet q =
     let value : ℕ = result m (s .registers) in
     let value′ : ℕ = result (normalFields m) (s .registers) in
     let kept : stored (normalFields m) value′ (s .registers) ≡ stored m value (s .registers) =
     same-stored m value′ (s .registers) h ∙ stores quiet q in
-    let line : nextLine (normalFields m) value′ (s .line) ≡ nextLine m value (s .line) =
-    same-line m value′ (s .line) ∙ goes quiet q in
+    let line : nextLine bits (normalFields m) value′ (s .line) ≡ nextLine bits m value (s .line) =
+    same-line bits m value′ (s .line) ∙ goes quiet q in
     rw (kept, line) (unfold transfer normalFields in refl)
   where
     stores : (quiet : Bool) → idle m ≡ quiet → stored m (result (normalFields m) (s .registers)) (s .registers) ≡ stored m (result m (s .registers)) (s .registers)
     stores true q = idle-stored m q _ _ (s .registers)
     stores false q = rw (same-result m (s .registers) q)
 
-    goes : (quiet : Bool) → idle m ≡ quiet → nextLine m (result (normalFields m) (s .registers)) (s .line) ≡ nextLine m (result m (s .registers)) (s .line)
-    goes true q = idle-line m q _ _ (s .line)
+    goes : (quiet : Bool) → idle m ≡ quiet → nextLine bits m (result (normalFields m) (s .registers)) (s .line) ≡ nextLine bits m (result m (s .registers)) (s .line)
+    goes true q = idle-line m q bits _ _ (s .line)
     goes false q = rw (same-result m (s .registers) q)
 
 pub same-cycle : (w : ℕ) (input : List ℕ) (s : State) → cycleOf (normalForm w) input s ≡ cycleOf w input s
-unfolding cycleOf
-same-cycle w input s = rw (normal-fields w, same-driven (fieldsOf w) (fields-within w .hs) input s (idle (fieldsOf w)) refl)
+unfolding cycleOn
+same-cycle w input s = rw (normal-fields w, same-driven 6 (fieldsOf w) (fields-within w .hs) input s (idle (fieldsOf w)) refl)

@@ -52,12 +52,12 @@ unfoldable pub transfer : Fields → List ℕ → List ℕ → State → Transfe
 transfer m input registers s =
     transferred (eqb (m .rd) 1) (eqb (m .wr) 1) input (s .half) (found registers s)
 
--- New CMP, by N and Z of this same cycle; after 63 comes 0.
-unfoldable pub target : Fields → Bool → ℕ → ℕ
-target m jump line = cond jump (m .end) (sum 6 line 1)
+-- New CMP, by N and Z of this same cycle; a line has so many bits, and after the last comes 0.
+unfoldable pub target : ℕ → Fields → Bool → ℕ → ℕ
+target bits m jump line = cond jump (m .end) (sum bits line 1)
 
-unfoldable pub nextLine : Fields → ℕ → ℕ → ℕ
-nextLine m value line = target m (jumps (m .sq) (negative value) (isZero value)) line
+unfoldable pub nextLine : ℕ → Fields → ℕ → ℕ → ℕ
+nextLine bits m value line = target bits m (jumps (m .sq) (negative value) (isZero value)) line
 
 -- The state that follows, and whether its write met a full log.
 pub record Cycled : Type 0 where
@@ -82,22 +82,27 @@ arrived line registers t =
     }
 
 -- What the fields of a control word drive.
-unfoldable pub driven : Fields → List ℕ → State → Cycled
-driven m input s =
+unfoldable pub driven : ℕ → Fields → List ℕ → State → Cycled
+driven bits m input s =
     let value : ℕ = result m (s .registers) in
     let registers : List ℕ = stored m value (s .registers) in
-    arrived (nextLine m value (s .line)) registers (transfer m input registers s)
+    arrived (nextLine bits m value (s .line)) registers (transfer m input registers s)
 
 -- A refused cycle leaves the state before it.
 unfoldable pub settled : State → Cycled → Cycled
 settled s c = cond (c .full) (record { next = s; full = true }) c
 
--- The cycle of a control word.
-unfoldable pub cycleOf : ℕ → List ℕ → State → Cycled
-cycleOf word input s = settled s (driven (fieldsOf word) input s)
+-- A cycle by the fields of a control word; lines have so many bits.
+unfoldable pub cycleOn : ℕ → Fields → List ℕ → State → Cycled
+cycleOn bits m input s = settled s (driven bits m input s)
 
 -- The write that it completes, if any.
-unfoldable pub writtenBy : ℕ → State → List Sent
-writtenBy word s =
-    let m : Fields = fieldsOf word in
-    sends (eqb (m .rd) 1) (eqb (m .wr) 1) (s .half) (found (stored m (result m (s .registers)) (s .registers)) s)
+unfoldable pub writesOn : Fields → State → List Sent
+writesOn m s = sends (eqb (m .rd) 1) (eqb (m .wr) 1) (s .half) (found (stored m (result m (s .registers)) (s .registers)) s)
+
+-- The cycle of a control word of 23 bits; after line 63 comes 0.
+abbrev pub cycleOf : ℕ → List ℕ → State → Cycled
+cycleOf word input s = cycleOn 6 (fieldsOf word) input s
+
+abbrev pub writtenBy : ℕ → State → List Sent
+writtenBy word s = writesOn (fieldsOf word) s

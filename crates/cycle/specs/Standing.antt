@@ -36,11 +36,13 @@ pub record Beginning : Type 0 where
   pub stood : ℕ
   pub registers : List ℕ
 
-unfoldable pub beginning : ℕ → ℕ → List ℕ → Beginning
-beginning word line registers =
-    let m : Fields = fieldsOf word in
+unfoldable pub beginningOn : ℕ → Fields → ℕ → List ℕ → Beginning
+beginningOn bits m line registers =
     let value : ℕ = result m registers in
-    record { fields = m; next = nextLine m value line; stood = getD registers (m .s) 0; registers = stored m value registers }
+    record { fields = m; next = nextLine bits m value line; stood = getD registers (m .s) 0; registers = stored m value registers }
+
+abbrev pub beginning : ℕ → ℕ → List ℕ → Beginning
+beginning word line registers = beginningOn 6 (fieldsOf word) line registers
 
 abbrev pub begun : Begun → List ℕ → Beginning
 begun b registers = record { fields = b .m; next = b .next .0; stood = b .old; registers = registers }

@@ -27,7 +27,7 @@ pub struct Stepped {
 
 fn next_line(m: Fields, value: u16, line: Line) -> Line
     requires { ⌜ m .end < 64 ⌝ }
-    ensures { λ r. ⌜ r .0 ≡ nextLine m value (line .0) ⌝ }
+    ensures { λ r. ⌜ r .0 ≡ nextLine 6 m value (line .0) ⌝ }
 {
     if datapath::does_jump(m.sq, value) {
         return Line(m.end as u8);

@@ -1,6 +1,6 @@
 -- What answers 1 to 4 let through: it gives all that demand 3 asks of a state, and the engine keeps to it, so that a run can be
 -- continued by another.
-use Prim.Native.Nat.{ℕ, zero, suc, _+_, _-_, _%_, _≤_, _<_}
+use Prim.Native.Nat.{ℕ, zero, suc, _+_, _-_, _%_, _^_, _≤_, _<_}
 use mathlib.Core.Path.{_≡_, refl, ap, sym, _∙_}
 use mathlib.Core.List.{List}
 use mathlib.Core.Bool.{Bool, true, false, cond, not, _||_, true≢false}
@@ -8,6 +8,7 @@ use native.Mathlib.Omega.{arith}
 use native.Mathlib.Decide.{ℕ-discrete, decLt}
 use lib.ListN.{length, getD, set}
 use lib.Seq.{getD-set-same, getD-set-other, set-out}
+use lib.Pow.{pow-pos}
 use lib.Dec.{ltb, eqb}
 use borrow.Author.Tests.{ltb-true, ltb-false, eqb-true, le-ltb, eq-eqb}
 use Rattle.bus.specs.declared.Fetched.{Fetched}
@@ -22,21 +23,25 @@ use Rattle.datapath.proofs.Laws.{transfer-leaves}
 use Rattle.microword.specs.declared.Fields.{Fields}
 use Rattle.microword.specs.Microword.{fieldsOf, firstBad}
 use Rattle.microword.proofs.Laws.{fields-within}
-use Rattle.cycle.specs.Cycle.{State, register, result, stored, found, transfer, nextLine, driven, cycleOf}
+use Rattle.turns.proofs.Laws as T
+use Rattle.cycle.specs.Cycle.{State, register, result, stored, found, transfer, nextLine, driven, cycleOn}
 use Rattle.cycle.proofs.Laws.{settled-keeps, target-within}
-use Rattle.engine.specs.Run.{Said, says, refusal, controlWord, cycle, plus, onwards, cycles}
+use Rattle.engine.specs.Run.{Said, says, refusalBy, refusal, controlWord, cycle, turn, cycles}
 
--- The facts behind "refusal 0".
-pub record Admitted (store input : List ℕ) (s : State) : Type 0 where
+-- The facts behind "refusal 0", for a store of any size and lines of any number of bits.
+pub record AdmittedBy (size bits bad : ℕ) (store input : List ℕ) (s : State) : Type 0 where
   pub words : length (s .memory) ≡ 4096
-  pub lines : length store ≡ 64
+  pub lines : length store ≡ size
   pub place : s .place ≤ length input
   pub count : s .count ≤ length (s .log)
   pub cp : register 0 s < 4096
   pub pp : register 2 s < 4096
   pub rem : register 6 s < 4096
-  pub line : s .line < 64
-  pub good : 64 ≤ firstBad store
+  pub line : s .line < 2 ^ bits
+  pub good : 2 ^ bits ≤ bad
+
+abbrev pub Admitted : List ℕ → List ℕ → State → Type 0
+Admitted store input s = AdmittedBy 64 6 (firstBad store) store input s
 
 -- Four tests in turn let a state through only where none holds.
 tests-pass : (a b c d : Bool) (k : ℕ) → cond a (says 1) (cond b (says 2) (cond c (says 3) (cond d (record { number = 4; line = k }) (says 0)))) ≡ says 0
@@ -59,35 +64,35 @@ not-false : (a : Bool) → not a ≡ false → a ≡ true
 not-false true e = refl
 not-false false e = absurd (true≢false e)
 
-pub admitted : (store input : List ℕ) (s : State) → refusal store input s ≡ says 0 → Admitted store input s
-unfolding refusal
-admitted store input s e =
+pub admitted-by : (size bits bad : ℕ) (store input : List ℕ) (s : State) → refusalBy size bits bad store input s ≡ says 0 → AdmittedBy size bits bad store input s
+unfolding refusalBy
+admitted-by size bits bad store input s e =
     let a : Bool = not (eqb (length (s .memory)) 4096) in
-    let b : Bool = not (eqb (length store) 64) in
+    let b : Bool = not (eqb (length store) size) in
     let p : Bool = ltb (length input) (s .place) in
     let q : Bool = ltb (length (s .log)) (s .count) in
     let u : Bool = ltb 4095 (register 0 s) in
     let v : Bool = ltb 4095 (register 2 s) in
     let w : Bool = ltb 4095 (register 6 s) in
-    let l : Bool = ltb 63 (s .line) in
-    let t = tests-pass (a || b) (p || q) (u || v || w || l) (ltb (firstBad store) 64) (firstBad store) e in
+    let l : Bool = ltb (2 ^ bits - 1) (s .line) in
+    let t = tests-pass (a || b) (p || q) (u || v || w || l) (ltb bad (2 ^ bits)) bad e in
     let uvw : (u || v || w) ≡ false = or-left (u || v || w) l (t .2) in
     let uv : (u || v) ≡ false = or-left (u || v) w uvw in
     record {
       words = eqb-true (length (s .memory)) 4096 (not-false _ (or-left a b (t .0)));
-      lines = eqb-true (length store) 64 (not-false _ (or-right a b (t .0)));
+      lines = eqb-true (length store) size (not-false _ (or-right a b (t .0)));
       place = ltb-false (length input) (s .place) (or-left p q (t .1));
       count = ltb-false (length (s .log)) (s .count) (or-right p q (t .1));
       cp = omega (arith, ltb-false 4095 (register 0 s) (or-left u v uv));
       pp = omega (arith, ltb-false 4095 (register 2 s) (or-right u v uv));
       rem = omega (arith, ltb-false 4095 (register 6 s) (or-right (u || v) w uvw));
-      line = omega (arith, ltb-false 63 (s .line) (or-right (u || v || w) l (t .2)));
-      good = ltb-false (firstBad store) 64 (t .3);
+      line = omega (arith, pow-pos bits, ltb-false (2 ^ bits - 1) (s .line) (or-right (u || v || w) l (t .2)));
+      good = ltb-false bad (2 ^ bits) (t .3);
     }
 
-pub unrefused : (store input : List ℕ) (s : State) → Admitted store input s → refusal store input s ≡ says 0
-unfolding refusal
-unrefused store input s a =
+pub unrefused-by : (size bits bad : ℕ) (store input : List ℕ) (s : State) → AdmittedBy size bits bad store input s → refusalBy size bits bad store input s ≡ says 0
+unfolding refusalBy
+unrefused-by size bits bad store input s a =
     rw (
       eq-eqb _ _ (a .words),
       eq-eqb _ _ (a .lines),
@@ -96,9 +101,18 @@ unrefused store input s a =
       le-ltb 4095 (register 0 s) (omega (arith, a .cp)),
       le-ltb 4095 (register 2 s) (omega (arith, a .pp)),
       le-ltb 4095 (register 6 s) (omega (arith, a .rem)),
-      le-ltb 63 (s .line) (omega (arith, a .line)),
+      le-ltb (2 ^ bits - 1) (s .line) (omega (arith, a .line)),
       le-ltb _ _ (a .good),
     )
+
+-- With 64 control words.
+pub admitted : (store input : List ℕ) (s : State) → refusal store input s ≡ says 0 → Admitted store input s
+unfolding refusal
+admitted store input s e = admitted-by 64 6 (firstBad store) store input s e
+
+pub unrefused : (store input : List ℕ) (s : State) → Admitted store input s → refusal store input s ≡ says 0
+unfolding refusal
+unrefused store input s a = unrefused-by 64 6 (firstBad store) store input s a
 
 -- The input place stays within the input.
 record Placed (input : List ℕ) (r : Fetched) : Type 0 where
@@ -146,9 +160,10 @@ stays-low m value word registers r other low h = rw (getD-set-other (stored m va
     by false = h
 
 -- What a good control word drives is admitted again.
-driven-admitted : (m : Fields) (store input : List ℕ) (s : State) → m .end < 64 → Admitted store input s → Admitted store input (driven m input s .next)
+driven-admitted : (size bits bad : ℕ) (m : Fields) (store input : List ℕ) (s : State) → m .end < 2 ^ bits → AdmittedBy size bits bad store input s
+    → AdmittedBy size bits bad store input (driven bits m input s .next)
 unfolding driven transfer nextLine
-driven-admitted m store input s h a =
+driven-admitted size bits bad m store input s h a =
     let value : ℕ = result m (s .registers) in
     let at : Found = found (stored m value (s .registers)) s in
     let t : Transfer = transferred (eqb (m .rd) 1) (eqb (m .wr) 1) input (s .half) at in
@@ -161,26 +176,25 @@ driven-admitted m store input s h a =
       cp = stays-low m value (t .rdm) (s .registers) 0 (λ q. omega arith) (unfold keeps in (cut value)) (a .cp);
       pp = stays-low m value (t .rdm) (s .registers) 2 (λ q. omega arith) (unfold keeps in (cut value)) (a .pp);
       rem = stays-low m value (t .rdm) (s .registers) 6 (λ q. omega arith) (unfold keeps in (cut value)) (a .rem);
-      line = target-within m _ (s .line) h;
+      line = target-within bits m _ (s .line) h;
       good = a .good;
     }
   where
     cut : (n : ℕ) → n % 4096 < 4096
     cut n = omega arith
 
+-- And so is what a cycle by such a word leaves.
+pub cycle-admitted-by : (size bits bad : ℕ) (m : Fields) (store input : List ℕ) (s : State) → m .end < 2 ^ bits → AdmittedBy size bits bad store input s
+    → AdmittedBy size bits bad store input (cycleOn bits m input s .next)
+unfolding cycleOn
+cycle-admitted-by size bits bad m store input s h a =
+    settled-keeps (AdmittedBy size bits bad store input) s (driven bits m input s) a (driven-admitted size bits bad m store input s h a)
+
 cycle-admitted : (store input : List ℕ) (s : State) → Admitted store input s → Admitted store input (cycle store input s .next)
-unfolding cycleOf
 cycle-admitted store input s a =
-    let m : Fields = fieldsOf (controlWord store (s .line)) in
-    settled-keeps (Admitted store input) s (driven m input s) a (driven-admitted m store input s (fields-within (controlWord store (s .line)) .end) a)
+    cycle-admitted-by 64 6 (firstBad store) (fieldsOf (controlWord store (s .line))) store input s (fields-within (controlWord store (s .line)) .end) a
 
 -- A run from an admitted state ends in an admitted state.
 pub cycles-admitted : (store input : List ℕ) (n : ℕ) (s : State) → Admitted store input s → Admitted store input (cycles store input n s .state)
-unfolding cycles onwards plus
-cycles-admitted store input zero s a = a
-cycles-admitted store input (suc n) s a = by (cycle store input s .full) (cycles-admitted store input n (cycle store input s .next) (cycle-admitted store input s a))
-  where
-    by : (full : Bool) → Admitted store input (cycles store input n (cycle store input s .next) .state)
-        → Admitted store input (onwards full (cycle store input s .next) (cycles store input n (cycle store input s .next)) .state)
-    by true rest = cycle-admitted store input s a
-    by false rest = rest
+unfolding cycles
+cycles-admitted store input n s a = T.keeps (turn store input) (Admitted store input) (cycle-admitted store input) n s a

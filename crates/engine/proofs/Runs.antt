@@ -1,7 +1,7 @@
 -- Laws of runs: a run in two parts, what a run does to memory and log, and no second answer.
 use Prim.Native.Nat.{ℕ, zero, suc, _+_, _-_, _≤_}
 use mathlib.Core.Path.{_≡_, refl, sym, _∙_, ap}
-use mathlib.Core.Bool.{Bool, true, false, cond}
+use mathlib.Core.Bool.{Bool, true, false, cond, true≢false}
 use mathlib.Core.List.{List, [], _++_}
 use native.Mathlib.Nat.{zero-add, suc-add}
 use native.Mathlib.Omega.{arith}
@@ -11,9 +11,12 @@ use lib.Dec.{eqb}
 use Rattle.bus.specs.Ports.{Left}
 use Rattle.bus.specs.Log.{Sent, after, toLog, room, Took}
 use Rattle.bus.proofs.Laws.{kept, after-append, after-ports, to-log-append}
+use Rattle.microword.specs.Microword.{fieldsOf}
+use Rattle.turns.specs.Turns.{plus as T·plus}
+use Rattle.turns.proofs.Laws as T
 use Rattle.cycle.specs.Cycle.{State, writtenBy}
 use Rattle.cycle.proofs.Writes.{held, stays, cycle-writes, cycle-fits}
-use Rattle.engine.specs.Run.{Said, says, saying, Ended, controlWord, cycle, plus, onwards, cycles, writes, endedBy}
+use Rattle.engine.specs.Run.{Said, says, saying, Ended, controlWord, cycle, turn, ended, plus, cycles, writes, endedBy}
 use Rattle.engine.specs.declared.Answer.{Answer}
 use Rattle.engine.specs.declared.Answer.the-variants.{Done, Sizes, Places, Ranges, BadWord, LogFull}
 use Rattle.engine.specs.declared.Machine.{Machine}
@@ -23,46 +26,30 @@ use Rattle.engine.specs.declared.Ran.{Ran}
 abbrev pub ran : ℕ → State → Ended
 ran n s = record { state = s; done = n; said = says 0 }
 
-not-five : says 5 ≡ says 0 → ⊥
-not-five e = let z : _≡_ {A = ℕ} 5 0 = ap (λ (x : Said). x .number) e in omega arith
-
--- What the first part did, the whole does first.
-further : (full : Bool) (a : ℕ) (s e : State) (x y z : Ended) → (x ≡ ran a e → y ≡ plus a z) → onwards full s x ≡ ran (suc a) e
-    → onwards full s y ≡ plus (suc a) z
-unfolding onwards plus
-further true a s e x y z f p = absurd (not-five (ap (λ (r : Ended). r .said) p))
-further false a s e x y z f p =
-    let d : 1 + x .done ≡ suc a = ap (λ (r : Ended). r .done) p in
-    let d′ : x .done ≡ a = omega arith in
-    let g : x ≡ ran a e = same (x .state) e (x .done) a (x .said) (says 0) (ap (λ (r : Ended). r .state) p) d′ (ap (λ (r : Ended). r .said) p) in
-    rw (f g) (same (z .state) (z .state) (1 + (a + z .done)) (suc a + z .done) (z .said) (z .said) refl (omega arith) refl)
-  where
-    same : (s s′ : State) (n n′ : ℕ) (a a′ : Said) → s ≡ s′ → n ≡ n′ → a ≡ a′
-        → _≡_ {A = Ended} (record { state = s; done = n; said = a }) (record { state = s′; done = n′; said = a′ })
-    same s s′ n n′ a a′ p q r = rw (p, q, r)
-
 -- A run of a cycles and then b is a run of a + b, where no stop comes in the first.
 pub chained : (store input : List ℕ) (a b : ℕ) (s e : State) → cycles store input a s ≡ ran a e
     → cycles store input (a + b) s ≡ plus a (cycles store input b e)
-unfolding cycles plus
-chained store input zero b s e p = let q : s ≡ e = ap (λ (r : Ended). r .state) p in rw (zero-add b, zero-add (cycles store input b e .done), q)
-chained store input (suc a) b s e p =
-    rw suc-add
-    (further (cycle store input s .full) a (cycle store input s .next) e _ _ _ (chained store input a b (cycle store input s .next) e) p)
+unfolding cycles plus T·plus
+chained store input a b s e p =
+    ap ended (T.in-two (turn store input) a b s (ap (λ (r : Ended). r .said .number) p))
+    ∙ rw (ap (λ (r : Ended). r .done) p, ap (λ (r : Ended). r .state) p)
+
+-- A turn that was not stopped, and one that was.
+carried : (full : Bool) → _≡_ {A = ℕ} (cond full 5 0) 0 → full ≡ false
+carried true e = let z : ⊥ = omega arith in absurd z
+carried false e = refl
+
+refused : (full : Bool) → eqb (cond full 5 0) 0 ≡ false → full ≡ true
+refused true e = refl
+refused false e = absurd (true≢false e)
 
 -- What a run does to memory and log is the writes that it completes.
 pub run-writes : (store input : List ℕ) (n : ℕ) (s : State) → held (cycles store input n s .state) ≡ after (writes store input n s) (held s)
-unfolding cycles writes after onwards plus
-run-writes store input zero s = refl
-run-writes store input (suc n) s = by (cycle store input s .full) refl (run-writes store input n (cycle store input s .next))
-  where
-    by : (full : Bool) → cycle store input s .full ≡ full
-        → held (cycles store input n (cycle store input s .next) .state) ≡ after (writes store input n (cycle store input s .next)) (held (cycle store input s .next))
-        → held (onwards full (cycle store input s .next) (cycles store input n (cycle store input s .next)) .state)
-        ≡ after (cond full [] (writtenBy (controlWord store (s .line)) s ++ writes store input n (cycle store input s .next))) (held s)
-    by true e rest = ap held (stays (controlWord store (s .line)) input s e)
-    by false e rest =
-        rest ∙ rw (cycle-writes (controlWord store (s .line)) input s e) (sym (after-append (writtenBy (controlWord store (s .line)) s) (writes store input n (cycle store input s .next)) (held s)))
+unfolding cycles writes after
+run-writes store input n s =
+    T.tells (turn store input) (λ s. writtenBy (controlWord store (s .line)) s) held after (λ y. refl) after-append
+    (λ s f. cycle-writes 6 (fieldsOf (controlWord store (s .line))) input s (carried _ f))
+    (λ s f. ap held (stays 6 (fieldsOf (controlWord store (s .line))) input s (refused _ f))) n s
 
 -- The words under the ports are never changed by a run.
 pub run-ports : (store input : List ℕ) (n : ℕ) (s : State) (place : ℕ) → 4092 ≤ place
@@ -73,22 +60,19 @@ run-ports store input n s place h =
 -- There was room for every word that a run sent to the log.
 run-fits : (store input : List ℕ) (n : ℕ) (s : State) → s .count ≤ length (s .log) → length (toLog (writes store input n s)) ≤ room (held s)
 unfolding writes toLog
-run-fits store input zero s h = omega arith
-run-fits store input (suc n) s h = by (cycle store input s .full) refl (run-fits store input n (cycle store input s .next))
+run-fits store input n s h =
+    T.fits (turn store input) (λ s. writtenBy (controlWord store (s .line)) s) (λ s. s .count ≤ length (s .log)) (λ l. length (toLog l)) (λ s. room (held s)) refl
+    (λ a b. rw (to-log-append a b, length-append (toLog a) (toLog b))) one n s h
   where
-    first : List Sent
-    first = writtenBy (controlWord store (s .line)) s
-
-    next : State
-    next = cycle store input s .next
-
-    by : (full : Bool) → cycle store input s .full ≡ full → (next .count ≤ length (next .log) → length (toLog (writes store input n next)) ≤ room (held next))
-        → length (toLog (cond full [] (first ++ writes store input n next))) ≤ room (held s)
-    by true e rest = omega arith
-    by false e rest =
-        let t : Took (toLog first) (held s) (held next) = rw (cycle-writes (controlWord store (s .line)) input s e) (kept first (held s) h) in
-        rw (to-log-append first (writes store input n next), length-append (toLog first) (toLog (writes store input n next)))
-        (omega (arith, t .left, cycle-fits (controlWord store (s .line)) input s e, rest (t .within)))
+    one : (s : State) → turn store input s .stop ≡ 0 → s .count ≤ length (s .log)
+        → (length (toLog (writtenBy (controlWord store (s .line)) s)) ≤ room (held s))
+        × (room (held (cycle store input s .next)) ≡ room (held s) - length (toLog (writtenBy (controlWord store (s .line)) s)))
+        × (cycle store input s .next .count ≤ length (cycle store input s .next .log))
+    one s f h =
+        let m = fieldsOf (controlWord store (s .line)) in
+        let e : cycle store input s .full ≡ false = carried _ f in
+        let t : Took (toLog (writtenBy (controlWord store (s .line)) s)) (held s) (held (cycle store input s .next)) = rw (cycle-writes 6 m input s e) (kept (writtenBy (controlWord store (s .line)) s) (held s) h) in
+        (cycle-fits 6 m input s e, t .left, t .within)
 
 -- After a run the log is its former words followed, in order, by every word that the completed writes sent to 4094, and nothing else;
 -- the room past them is as found.

@@ -1,11 +1,12 @@
 -- A run of cycles: the refusals before it, the cycles in turn, and what it answers (01, Instructions; Answer numbers).
-use Prim.Native.Nat.{ℕ, zero, suc, _+_}
-use mathlib.Core.Bool.{Bool, true, false, cond, not, _||_}
-use mathlib.Core.List.{List, [], _++_}
+use Prim.Native.Nat.{ℕ, _+_, _-_, _^_}
+use mathlib.Core.Bool.{cond, not, _||_}
+use mathlib.Core.List.{List}
 use lib.ListN.{length, getD}
 use lib.Dec.{ltb, eqb}
 use Rattle.microword.specs.Microword.{firstBad}
 use Rattle.bus.specs.Log.{Sent}
+use Rattle.turns.specs.Turns.{Turn, Turned, turns, told}
 use Rattle.cycle.specs.Cycle.{State, Cycled, register, cycleOf, writtenBy}
 use Rattle.engine.specs.declared.Answer.{Answer}
 use Rattle.engine.specs.declared.Answer.the-variants.{Done, Sizes, Places, Ranges, BadWord, LogFull}
@@ -29,14 +30,20 @@ saying Ranges = says 3
 saying (BadWord k) = record { number = 4; line = k .0 }
 saying LogFull = says 5
 
--- Order for a run: 1, 2, 3, 4, before any cycle; 0 lets it run.
-unfoldable pub refusal : List ℕ → List ℕ → State → Said
-refusal store input s =
-    cond (not (eqb (length (s .memory)) 4096) || not (eqb (length store) 64)) (says 1)
+-- Order for a run: 1, 2, 3, 4, before any cycle; 0 lets it run. A control store of this size, with lines of so many bits, whose first
+-- bad line is this one.
+unfoldable pub refusalBy : ℕ → ℕ → ℕ → List ℕ → List ℕ → State → Said
+refusalBy size bits bad store input s =
+    cond (not (eqb (length (s .memory)) 4096) || not (eqb (length store) size)) (says 1)
     (cond (ltb (length input) (s .place) || ltb (length (s .log)) (s .count)) (says 2)
-    (cond (ltb 4095 (register 0 s) || ltb 4095 (register 2 s) || ltb 4095 (register 6 s) || ltb 63 (s .line)) (says 3)
-    (cond (ltb (firstBad store) 64) (record { number = 4; line = firstBad store })
+    (cond (ltb 4095 (register 0 s) || ltb 4095 (register 2 s) || ltb 4095 (register 6 s) || ltb (2 ^ bits - 1) (s .line)) (says 3)
+    (cond (ltb bad (2 ^ bits)) (record { number = 4; line = bad })
     (says 0))))
+
+-- 64 control words.
+unfoldable pub refusal : List ℕ → List ℕ → State → Said
+unfolding refusalBy
+refusal store input s = refusalBy 64 6 (firstBad store) store input s
 
 -- The control word at a line.
 abbrev pub controlWord : List ℕ → ℕ → ℕ
@@ -56,22 +63,20 @@ pub record Ended : Type 0 where
 unfoldable pub plus : ℕ → Ended → Ended
 plus k e = record { state = e .state; done = k + e .done; said = e .said }
 
--- After a cycle: the refusal of a full log, or what the rest comes to.
-unfoldable pub onwards : Bool → State → Ended → Ended
-onwards true s rest = record { state = s; done = 0; said = says 5 }
-onwards false s rest = plus 1 rest
+-- A cycle as a turn of a run: 5 where it met a full log.
+abbrev pub turn : List ℕ → List ℕ → State → Turn State
+turn store input s = record { next = cycle store input s .next; stop = cond (cycle store input s .full) 5 0; cost = 1 }
+
+abbrev pub ended : Turned State → Ended
+ended t = record { state = t .state; done = t .done; said = says (t .stop) }
 
 -- A run is that many single cycles in turn.
 unfoldable pub cycles : List ℕ → List ℕ → ℕ → State → Ended
-cycles store input zero s = record { state = s; done = 0; said = says 0 }
-cycles store input (suc n) s =
-    onwards (cycle store input s .full) (cycle store input s .next) (cycles store input n (cycle store input s .next))
+cycles store input n s = ended (turns (turn store input) n s)
 
 -- The writes that a run completes, in order.
 unfoldable pub writes : List ℕ → List ℕ → ℕ → State → List Sent
-writes store input zero s = []
-writes store input (suc n) s =
-    cond (cycle store input s .full) [] (writtenBy (controlWord store (s .line)) s ++ writes store input n (cycle store input s .next))
+writes store input n s = told (turn store input) (λ s. writtenBy (controlWord store (s .line)) s) n s
 
 -- Counts with refusals 1 to 4 are 0, and all is left as found.
 unfoldable pub begun : Said → List ℕ → List ℕ → ℕ → State → Ended

@@ -4,8 +4,9 @@ use mathlib.Core.Path.{_≡_, refl, sym, _∙_, ap}
 use mathlib.Core.Bool.{Bool, true, false, cond}
 use mathlib.Core.List.{List}
 use lib.Dec.{eqb}
+use Rattle.turns.specs.Turns.{turns, onwards, plus}
 use Rattle.cycle.specs.Cycle.{State}
-use Rattle.engine.specs.Run.{Said, Ended, saying, cycle, onwards, plus, cycles, refusal, begun, runs, endedBy, Press, press, pressedBy}
+use Rattle.engine.specs.Run.{Said, Ended, saying, cycle, turn, ended, cycles, refusal, begun, runs, endedBy, Press, press, pressedBy}
 use Rattle.engine.specs.declared.Pressed.{Pressed}
 use Rattle.engine.specs.declared.Ran.{Ran}
 use Rattle.assembler.specs.Assembled.{Outcome}
@@ -14,12 +15,12 @@ use Rattle.facetgrove.specs.Rooms.{Filled}
 
 -- A run of 1 carried out its cycle where it answers 0, and none where it answers anything else.
 once : (store input : List ℕ) (s : State) → runs store input 1 s .done ≡ cond (eqb (runs store input 1 s .said .number) 0) 1 0
-unfolding runs begun cycles onwards plus
+unfolding runs begun cycles turns onwards plus
 once store input s = by (refusal store input s) (eqb (refusal store input s .number) 0) refl (cycle store input s .full)
   where
     end : Said → Bool → Bool → Ended
     end refused fine full =
-        cond fine (onwards full (cycle store input s .next) (cycles store input 0 (cycle store input s .next)))
+        cond fine (ended (onwards (record { next = cycle store input s .next; stop = cond full 5 0; cost = 1 }) (turns (turn store input) 0 (cycle store input s .next))))
         (record { state = s; done = 0; said = refused })
 
     by : (refused : Said) (fine : Bool) → eqb (refused .number) 0 ≡ fine → (full : Bool)

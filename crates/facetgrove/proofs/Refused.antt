@@ -8,13 +8,13 @@ use native.Mathlib.Omega.{arith}
 use borrow.Author.Tests.{lt-ltb, le-ltb, eq-eqb, ne-eqb}
 use lib.Dec.{ltb, eqb}
 use lib.ListN.{length, getD}
+use Rattle.turns.proofs.Laws as T
 use Rattle.cycle.specs.Cycle.{State}
-use Rattle.engine.specs.Run.{Ended, cycle, onwards, plus, cycles, refusal, begun, runs, stateOf}
+use Rattle.engine.specs.Run.{Ended, cycle, turn, cycles, refusal, begun, runs, stateOf}
 use Rattle.instruction.specs.Instruction.{State as Interpreter·State, instruct, stateOf as Interpreter·stateOf}
 use Rattle.interpreter.specs.Run.{
   Ended as Interpreter·Ended,
-  onwards as Interpreter·onwards,
-  plus as Interpreter·plus,
+  turn as Interpreter·turn,
   instructions,
   refusal as Interpreter·refusal,
   begun as Interpreter·begun,
@@ -27,16 +27,12 @@ use Rattle.facetgrove.specs.Runs.{engineCalled, interpreterCalled}
 
 -- Cycles answer 0 or 5.
 cycles-ran : (store input : List ℕ) (n : ℕ) (s : State) → ranBy (cycles store input n s .said .number) ≡ true
-unfolding cycles ranBy onwards plus
-cycles-ran store input zero s = refl
-cycles-ran store input (suc n) s = by (cycle store input s .full) (cycles-ran store input n (cycle store input s .next))
+unfolding cycles ranBy
+cycles-ran store input n s = T.answers (turn store input) (λ k. ranBy k ≡ true) refl (λ s. by (cycle store input s .full)) n s
   where
-    rest : Ended
-    rest = cycles store input n (cycle store input s .next)
-
-    by : (full : Bool) → ranBy (rest .said .number) ≡ true → ranBy (onwards full (cycle store input s .next) rest .said .number) ≡ true
-    by true e = refl
-    by false e = e
+    by : (full : Bool) → ranBy (cond full 5 0) ≡ true
+    by true = refl
+    by false = refl
 
 -- A run that answers neither did nothing.
 refused-run : (store input : List ℕ) (n : ℕ) (s : State) → ranBy (runs store input n s .said .number) ≡ false
@@ -53,16 +49,12 @@ refused-run store input n s = by (eqb (refusal store input s .number) 0)
 
 -- The same of instructions.
 instructions-ran : (input : List ℕ) (n : ℕ) (s : Interpreter·State) → ranBy (instructions input n s .answer) ≡ true
-unfolding instructions ranBy Interpreter·onwards Interpreter·plus
-instructions-ran input zero s = refl
-instructions-ran input (suc n) s = by (instruct input s .full) (instructions-ran input n (instruct input s .next))
+unfolding instructions ranBy
+instructions-ran input n s = T.answers (Interpreter·turn input) (λ k. ranBy k ≡ true) refl (λ s. by (instruct input s .full)) n s
   where
-    rest : Interpreter·Ended
-    rest = instructions input n (instruct input s .next)
-
-    by : (full : Bool) → ranBy (rest .answer) ≡ true → ranBy (Interpreter·onwards full (instruct input s) rest .answer) ≡ true
-    by true e = refl
-    by false e = e
+    by : (full : Bool) → ranBy (cond full 5 0) ≡ true
+    by true = refl
+    by false = refl
 
 -- And of a run of them.
 refused-instructions : (input : List ℕ) (n : ℕ) (s : Interpreter·State) → ranBy (Interpreter·runs input n s .answer) ≡ false

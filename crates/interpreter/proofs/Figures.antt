@@ -5,7 +5,8 @@ use mathlib.Core.List.{List, [], _∷_, map}
 use lib.ListN.{getD, set, replicate}
 use Rattle.bus.specs.Ports.{nextInput, readAt, goes, sent, logged, writeAt}
 use Rattle.instruction.specs.Instruction.{State, sets, writes, gains, jumps, action, fetched, past, acted, instruct}
-use Rattle.interpreter.specs.Run.{plus, onwards, instructions, refusal, begun, runs}
+use Rattle.turns.specs.Turns.{turns, onwards as T·onwards, plus as T·plus}
+use Rattle.interpreter.specs.Run.{plus, instructions, refusal, begun, runs}
 
 -- A memory of zero words but for one instruction.
 abbrev holding : ℕ → ℕ → ℕ → List ℕ
@@ -38,5 +39,5 @@ figures = refl
 stopping : (
     let memory : List ℕ = set (holding 1 1 4094) 0 (9 * 4096 + 5) in
     runs [] 2 (standing 0 0 0 memory) ≡ record { state = standing 1 0 5 memory; done = 1; cycles = 7; answer = 5 })
-unfolding runs begun refusal instructions onwards plus instruct acted past fetched action sets writes gains jumps readAt nextInput writeAt goes sent logged
+unfolding runs begun refusal instructions turns T·onwards T·plus plus instruct acted past fetched action sets writes gains jumps readAt nextInput writeAt goes sent logged
 stopping = refl

@@ -1,9 +1,9 @@
 -- Laws of a run.
 use Prim.Native.Nat.{ℕ, zero, suc, _+_, _-_, _≤_, _<_}
 use mathlib.Core.Path.{_≡_, refl, sym, _∙_, ap}
-use mathlib.Core.Bool.{Bool, true, false, cond, not}
+use mathlib.Core.Bool.{Bool, true, false, cond, not, true≢false}
 use mathlib.Core.List.{List, [], _∷_, _++_}
-use native.Mathlib.Nat.{add-zero, zero-add, add-assoc, suc-add}
+use native.Mathlib.Nat.{add-zero, zero-add, add-assoc}
 use native.Mathlib.Omega.{arith}
 use lib.ListN.{length, getD, take, drop, length-append}
 use lib.Seq.{take-all}
@@ -12,8 +12,10 @@ use borrow.Author.Tests.{eqb-true}
 use Rattle.bus.specs.Ports.{Left, sent}
 use Rattle.bus.specs.Log.{Sent, after, toLog, room, Took}
 use Rattle.bus.proofs.Laws as bus
+use Rattle.turns.specs.Turns.{Turned, turns, plus as T·plus}
+use Rattle.turns.proofs.Laws as T
 use Rattle.instruction.specs.Instruction.{State, Act, past, instruct}
-use Rattle.interpreter.specs.Run.{Ended, plus, onwards, instructions, refusal, number, endedBy}
+use Rattle.interpreter.specs.Run.{Ended, plus, turn, ended, instructions, refusal, number, endedBy}
 use Rattle.instruction.specs.Writes.{completed, foundIn}
 use Rattle.interpreter.specs.Writes.{completedBy}
 use Rattle.interpreter.specs.declared.Answer.{Answer}
@@ -32,19 +34,22 @@ plus-plus done cycles done′ cycles′ e = rw (add-assoc, add-assoc)
 
 pub goes-on : (input : List ℕ) (left done cycles : ℕ) (s : State) (a : Act) → 0 < left → instruct input s ≡ a → a .full ≡ false
     → plus done cycles (instructions input left s) ≡ plus (done + 1) (cycles + a .cycles) (instructions input (left - 1) (a .next))
-unfolding instructions onwards plus
-goes-on input zero done cycles s a h e f = let z : ⊥ = omega arith in absurd z
-goes-on input (suc left) done cycles s a h e f = let fewer : suc left - 1 ≡ left = omega arith in rw (fewer, e, f, add-assoc, add-assoc)
+unfolding instructions plus T·plus
+goes-on input left done cycles s a h e f =
+    let here : done + left - done ≡ left = omega arith in
+    let there : done + left - (done + 1) ≡ left - 1 = omega arith in
+    rw (here, there) at (ap ended (T.goes-on (turn input) s {n = done + left} {done = done} cycles {t = record { next = a .next; stop = 0; cost = a .cycles }} (omega arith) (rw (e, f)) refl))
 
 pub stops : (input : List ℕ) (left done cycles : ℕ) (s : State) (a : Act) → 0 < left → instruct input s ≡ a → a .full ≡ true
     → plus done cycles (instructions input left s) ≡ record { state = a .next; done = done; cycles = cycles; answer = 5 }
-unfolding instructions onwards plus
-stops input zero done cycles s a h e f = let z : ⊥ = omega arith in absurd z
-stops input (suc left) done cycles s a h e f = rw (e, f, add-zero, add-zero)
+unfolding instructions plus T·plus
+stops input left done cycles s a h e f =
+    let one : done + left - done ≡ left = omega arith in
+    rw one at (ap ended (T.stops (turn input) s {n = done + left} {done = done} cycles {t = record { next = a .next; stop = 5; cost = a .cycles }} (omega arith) (rw (e, f)) refl))
 
 pub ends : (input : List ℕ) (n left cycles : ℕ) (s : State) → left ≤ 0
     → plus (n - left) cycles (instructions input left s) ≡ record { state = s; done = n; cycles = cycles; answer = 0 }
-unfolding instructions plus
+unfolding instructions plus turns
 ends input n left cycles s h = let none-left : left ≡ 0 = omega arith in let all : n - 0 ≡ n = omega arith in rw (none-left, all, add-zero, add-zero)
 
 -- What answers 1 to 3 let through has a memory of 4,096 words.
@@ -96,53 +101,11 @@ run-only {e} {r} {r′} {memory} {memory′} {log} {log′} p q =
       ap (λ (x : Ended). x .state .log) same,
     )
 
--- A run of a instructions and then of b is one of a + b where no stop comes in the first; a stop ends both alike.
-then : (full : Bool) (a : Act) (first whole : Ended) (rest : State → Ended)
-    → (first .answer ≡ 0 → whole ≡ plus (first .done) (first .cycles) (rest (first .state)))
-    → onwards full a first .answer ≡ 0
-    → onwards full a whole ≡ plus (onwards full a first .done) (onwards full a first .cycles) (rest (onwards full a first .state))
-unfolding onwards plus
-then true a first whole rest next e = let z : ⊥ = omega arith in absurd z
-then false a first whole rest next e = rw (next e, add-assoc, add-assoc)
-
+-- A run of a instructions and then of b is one of a + b where no stop comes in the first.
 pub in-two : (input : List ℕ) (a b : ℕ) (s : State) → instructions input a s .answer ≡ 0
     → instructions input (a + b) s ≡ plus (instructions input a s .done) (instructions input a s .cycles) (instructions input b (instructions input a s .state))
-unfolding instructions
-in-two input zero b s h = rw zero-add (sym (plus-none (instructions input b s)))
-in-two input (suc a) b s h =
-    let next : State = instruct input s .next in
-    rw suc-add
-    (then (instruct input s .full) (instruct input s) (instructions input a next) (instructions input (a + b) next) (instructions input b) (in-two input a b next) h)
-
-pub stopped : (input : List ℕ) (a b : ℕ) (s : State) → instructions input a s .answer ≡ 5 → instructions input (a + b) s ≡ instructions input a s
-unfolding instructions onwards plus
-stopped input zero b s h = let z : ⊥ = omega arith in absurd z
-stopped input (suc a) b s h =
-    let next : State = instruct input s .next in
-    rw suc-add (by (instruct input s .full) (instruct input s) (instructions input a next) (instructions input (a + b) next) (stopped input a b next) h)
-  where
-    by : (full : Bool) (act : Act) (first whole : Ended) → (first .answer ≡ 5 → whole ≡ first) → onwards full act first .answer ≡ 5
-        → onwards full act whole ≡ onwards full act first
-    by true act first whole same e = refl
-    by false act first whole same e = ap (plus 1 (act .cycles)) (same e)
-
--- A run that answers 0 has carried out all that it was asked for, and one that answers 5 fewer.
-pub record Counted (n : ℕ) (e : Ended) : Type 0 where
-  pub all : e .answer ≡ 0 → e .done ≡ n
-  pub fewer : e .answer ≡ 5 → e .done < n
-
-pub counted : (input : List ℕ) (n : ℕ) (s : State) → Counted n (instructions input n s)
-unfolding instructions onwards plus
-counted input zero s = record { all = λ e. refl; fewer = λ e. omega arith }
-counted input (suc n) s = by (instruct input s .full) (instructions input n (instruct input s .next)) (counted input n (instruct input s .next))
-  where
-    by : (full : Bool) (rest : Ended) → Counted n rest → Counted (suc n) (onwards full (instruct input s) rest)
-    by true rest c = record { all = λ e. omega arith; fewer = λ e. omega arith }
-    by false rest c =
-        record {
-          all = λ e. (let d : rest .done ≡ n = c .all e in omega arith);
-          fewer = λ e. (let d : rest .done < n = c .fewer e in omega arith);
-        }
+unfolding instructions plus T·plus
+in-two input a b s h = ap ended (T.in-two (turn input) a b s h)
 
 -- Memory keeps its length and the words under its ports.
 pub record Spared (before later : List ℕ) : Type 0 where
@@ -159,38 +122,36 @@ found-room [] h at f = omega arith
 found-room (sent ∷ []) h at f = bus.has-room (at .memory) (at .log) (at .count) (sent .address) (sent .word) f
 found-room (sent ∷ other ∷ ss) h at f = let z : ⊥ = omega arith in absurd z
 
+-- A turn that was not stopped, and one that was.
+carried : (full : Bool) → _≡_ {A = ℕ} (cond full 5 0) 0 → full ≡ false
+carried true e = let z : ⊥ = omega arith in absurd z
+carried false e = refl
+
+refused : (full : Bool) → eqb (cond full 5 0) 0 ≡ false → full ≡ true
+refused true e = refl
+refused false e = absurd (true≢false e)
+
 -- Of a run: memory, log and count are what its completed writes, in turn, make of them.
 pub run-leaves : (input : List ℕ) (n : ℕ) (s : State) → foundIn (instructions input n s .state) ≡ after (completedBy input n s) (foundIn s)
-unfolding instructions completedBy onwards plus after
-run-leaves input zero s = refl
-run-leaves input (suc n) s =
-    by (instruct input s .full) refl (instructions input n (instruct input s .next)) (run-leaves input n (instruct input s .next))
-  where
-    by : (b : Bool) → instruct input s .full ≡ b → (rest : Ended)
-        → foundIn (rest .state) ≡ after (completedBy input n (instruct input s .next)) (foundIn (instruct input s .next))
-        → foundIn (onwards b (instruct input s) rest .state)
-        ≡ after (cond b [] (completed input s ++ completedBy input n (instruct input s .next))) (foundIn s)
-    by true f rest e = rw (refused-leaves input s f)
-    by false f rest e = e ∙ rw (instruct-leaves input s, bus.after-append)
+unfolding instructions completedBy after
+run-leaves input n s =
+    T.tells (turn input) (completed input) foundIn after (λ y. refl) bus.after-append
+    (λ s f. instruct-leaves input s)
+    (λ s f. rw (refused-leaves input s (refused _ f))) n s
 
 -- Every word that a run sent to the log found room there.
 all-fit : (input : List ℕ) (n : ℕ) (s : State) → s .count ≤ length (s .log) → length (toLog (completedBy input n s)) ≤ room (foundIn s)
 unfolding completedBy toLog
-all-fit input zero s h = omega arith
-all-fit input (suc n) s h =
-    let next : State = instruct input s .next in
-    let took : Took (toLog (completed input s)) (foundIn s) (foundIn next) = rw (instruct-leaves input s) (bus.kept (completed input s) (foundIn s) h) in
-    by (instruct input s .full)
-    (found-room (completed input s) (completed-one input s) (foundIn s) (ap (λ (l : Left). l .full) (sym (instruct-leaves input s))))
-    (took .left)
-    (all-fit input n next (took .within))
+all-fit input n s h =
+    T.fits (turn input) (completed input) (λ s. s .count ≤ length (s .log)) (λ l. length (toLog l)) (λ s. room (foundIn s)) refl
+    (λ a b. rw (bus.to-log-append a b, length-append (toLog a) (toLog b))) one n s h
   where
-    by : (b : Bool) → length (toLog (completed input s)) ≤ room (foundIn s)
-        → room (foundIn (instruct input s .next)) ≡ room (foundIn s) - length (toLog (completed input s))
-        → length (toLog (completedBy input n (instruct input s .next))) ≤ room (foundIn (instruct input s .next))
-        → length (toLog (cond b [] (completed input s ++ completedBy input n (instruct input s .next)))) ≤ room (foundIn s)
-    by true one left rest = omega arith
-    by false one left rest = rw (bus.to-log-append, length-append) (omega arith)
+    one : (s : State) → turn input s .stop ≡ 0 → s .count ≤ length (s .log)
+        → (length (toLog (completed input s)) ≤ room (foundIn s)) × (room (foundIn (instruct input s .next)) ≡ room (foundIn s) - length (toLog (completed input s)))
+        × (instruct input s .next .count ≤ length (instruct input s .next .log))
+    one s f h =
+        let took : Took (toLog (completed input s)) (foundIn s) (foundIn (instruct input s .next)) = rw (instruct-leaves input s) (bus.kept (completed input s) (foundIn s) h) in
+        (found-room (completed input s) (completed-one input s) (foundIn s) (ap (λ (l : Left). l .full) (sym (instruct-leaves input s))), took .left, took .within)
 
 -- After any run the log is its former words followed, in order, by every word that the completed writes sent to 4094, and nothing
 -- else; the room past them is as found.

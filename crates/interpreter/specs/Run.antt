@@ -1,10 +1,11 @@
 -- A run of instructions: the refusals before it, the instructions in turn, and what it answers (01, Instructions; Answer numbers).
-use Prim.Native.Nat.{ℕ, zero, suc, _+_}
-use mathlib.Core.Bool.{Bool, true, false, cond, not, _||_}
+use Prim.Native.Nat.{ℕ, _+_}
+use mathlib.Core.Bool.{cond, not, _||_}
 use mathlib.Core.List.{List}
 use lib.ListN.{length}
 use lib.Dec.{ltb, eqb}
-use Rattle.instruction.specs.Instruction.{State, Act, instruct, stateOf}
+use Rattle.turns.specs.Turns.{Turn, Turned, turns}
+use Rattle.instruction.specs.Instruction.{State, instruct, stateOf}
 use Rattle.interpreter.specs.declared.Answer.{Answer}
 use Rattle.interpreter.specs.declared.Answer.the-variants.{Done, Sizes, Places, Ranges, LogFull}
 use Rattle.interpreter.specs.declared.Ran.{Ran}
@@ -36,15 +37,16 @@ pub record Ended : Type 0 where
 unfoldable pub plus : ℕ → ℕ → Ended → Ended
 plus k cycles e = record { state = e .state; done = k + e .done; cycles = cycles + e .cycles; answer = e .answer }
 
--- After an instruction: the refusal of a full log, or what the rest comes to.
-unfoldable pub onwards : Bool → Act → Ended → Ended
-onwards true a rest = record { state = a .next; done = 0; cycles = 0; answer = 5 }
-onwards false a rest = plus 1 (a .cycles) rest
+-- An instruction as a turn of a run: 5 where it met a full log.
+abbrev pub turn : List ℕ → State → Turn State
+turn input s = record { next = instruct input s .next; stop = cond (instruct input s .full) 5 0; cost = instruct input s .cycles }
+
+abbrev pub ended : Turned State → Ended
+ended t = record { state = t .state; done = t .done; cycles = t .cost; answer = t .stop }
 
 -- A run is that many single instructions in turn.
 unfoldable pub instructions : List ℕ → ℕ → State → Ended
-instructions input zero s = record { state = s; done = 0; cycles = 0; answer = 0 }
-instructions input (suc n) s = onwards (instruct input s .full) (instruct input s) (instructions input n (instruct input s .next))
+instructions input n s = ended (turns (turn input) n s)
 
 -- Counts with refusals 1 to 3 are 0, and all is left as found.
 unfoldable pub begun : ℕ → List ℕ → ℕ → State → Ended

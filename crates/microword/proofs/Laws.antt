@@ -1,78 +1,102 @@
 -- Laws of the control word: fields and word turn back into each other, and the normal form is what its name says.
 -- The turning back is the law of `word` over any layout, at this one; the normal form goes by what is without use.
-use Prim.Native.Nat.{ℕ, suc, _+_, _/_, _≤_, _<_}
+use Prim.Native.Nat.{ℕ, suc, _+_, _/_, _^_, _≤_, _<_}
 use mathlib.Core.Path.{_≡_, refl, sym, _∙_}
 use mathlib.Core.Bool.{Bool, true, false, cond, not, _&&_, _||_}
 use mathlib.Core.List.{List, [], _∷_}
-use native.Mathlib.Nat.{div-eq-of-lt, add-zero}
+use native.Mathlib.Nat.{div-eq-of-lt, add-zero, zero-add}
 use native.Mathlib.Numerals.{add-one}
 use native.Mathlib.Omega.{arith}
 use lib.ListN.{length, getD, drop, drop-of-length-le}
 use lib.Seq.{drop-cons}
+use lib.Pow.{pow-mono}
 use lib.Dec.{ltb, eqb}
 use borrow.Author.Tests.{lt-ltb, ltb-true, eqb-true}
-use Rattle.word.specs.Number.{field, kept, joined, total}
-use Rattle.word.proofs.Laws.{kept-below, kept-whole, joined-below, joined-at, empty, joined-taken, widths, taken}
-use Rattle.microword.specs.Microword.{fieldsOf, layout, wordOf, badWord, firstBad, idle, binary, normalFields, normalForm, clear, unusedClear, isNormal}
+use Rattle.word.specs.Number.{field, kept, joined, total, widths}
+use Rattle.word.proofs.Laws.{kept-below, kept-whole, joined-below, joined-at, empty, joined-taken, taken}
+use Rattle.microword.specs.Microword.{Layout, widthsOf, bitsOf, fieldsBy, layoutBy, wordBy, narrow, fieldsOf, layout, wordOf, badWord, idle, binary, normalFields, normalForm, clear, unusedClear, isNormal}
 use Rattle.microword.specs.declared.Fields.{Fields}
 
 -- Each field is below its bound.
-pub record Within (m : Fields) : Type 0 where
-  pub a : m .a < 8
-  pub b : m .b < 8
-  pub s : m .s < 8
+pub record WithinBy (l : Layout) (m : Fields) : Type 0 where
+  pub a : m .a < 2 ^ (l .register)
+  pub b : m .b < 2 ^ (l .register)
+  pub s : m .s < 2 ^ (l .register)
   pub hs : m .hs < 2
   pub f : m .f < 8
   pub rd : m .rd < 2
   pub wr : m .wr < 2
   pub sq : m .sq < 4
-  pub end : m .end < 64
+  pub end : m .end < 2 ^ (l .line)
 
-pub fields-within : (w : ℕ) → Within (fieldsOf w)
-unfolding fieldsOf
-fields-within w =
+abbrev pub Within : Fields → Type 0
+Within m = WithinBy narrow m
+
+pub within-by : (l : Layout) (w : ℕ) → WithinBy l (fieldsBy l w)
+unfolding fieldsBy
+within-by l w =
     record {
-      a = kept-below 3 _;
-      b = kept-below 3 _;
-      s = kept-below 3 _;
+      a = kept-below (l .register) _;
+      b = kept-below (l .register) _;
+      s = kept-below (l .register) _;
       hs = kept-below 1 _;
       f = kept-below 3 _;
       rd = kept-below 1 _;
       wr = kept-below 1 _;
       sq = kept-below 2 _;
-      end = kept-below 6 _;
+      end = kept-below (l .line) _;
     }
 
--- Placing what was taken gives the word back.
+-- For every layout of at most 32 bits.
+module _ (l : Layout) (fits : bitsOf l ≤ 32) where
+  -- Placing what was taken gives the word back.
+  pub word-back-by : (w : ℕ) → w < 2 ^ bitsOf l → wordBy l (fieldsBy l w) ≡ w
+  unfolding wordBy fieldsBy taken
+  word-back-by w h =
+      let z : w / 2 ^ bitsOf l ≡ 0 = div-eq-of-lt h in
+      rw z at (joined-taken (widthsOf l) w (omega (arith, pow-mono fits)))
+
+  -- Taking what was placed gives the fields back.
+  pub fields-back-by : (m : Fields) → WithinBy l m → fieldsBy l (wordBy l m) ≡ m
+  unfolding wordBy fieldsBy total widths
+  fields-back-by m v =
+      rw (
+        at 0 (omega arith) ∙ kept-whole (l .register) (v .a),
+        at 1 (omega arith) ∙ kept-whole (l .register) (v .b),
+        at 2 (omega arith) ∙ kept-whole (l .register) (v .s),
+        at 3 (omega arith) ∙ kept-whole 1 (v .hs),
+        at 4 (omega arith) ∙ kept-whole 3 (v .f),
+        at 5 (omega arith) ∙ kept-whole 1 (v .rd),
+        at 6 (omega arith) ∙ kept-whole 1 (v .wr),
+        at 7 (omega arith) ∙ kept-whole 2 (v .sq),
+        at 8 (omega arith) ∙ kept-whole (l .line) (v .end),
+      )
+    where
+      at : (i : ℕ) → i < 9
+          → field (total (drop (suc i) (layoutBy l m))) (getD (layoutBy l m) i empty .width) (joined 0 (layoutBy l m)) ≡ kept (getD (layoutBy l m) i empty .width) (getD (layoutBy l m) i empty .value)
+      at i h = joined-at (layoutBy l m) i 0 0 h (omega arith) (omega arith)
+
+  -- A word made of fields has that many bits.
+  pub word-below-by : (m : Fields) → wordBy l m < 2 ^ bitsOf l
+  unfolding wordBy total widths
+  word-below-by m = rw zero-add at (joined-below (layoutBy l m) 0 0 (omega arith) (omega arith))
+
+-- At 23 bits.
+pub fields-within : (w : ℕ) → Within (fieldsOf w)
+unfolding fieldsOf
+fields-within w = within-by narrow w
+
 pub word-back : (w : ℕ) → w < 8388608 → wordOf (fieldsOf w) ≡ w
-unfolding wordOf fieldsOf taken widths
-word-back w h =
-    let z : w / 8388608 ≡ 0 = div-eq-of-lt h in
-    rw z at (joined-taken (3 ∷ 3 ∷ 3 ∷ 1 ∷ 3 ∷ 1 ∷ 1 ∷ 2 ∷ 6 ∷ []) w (omega arith))
+unfolding wordOf fieldsOf
+word-back w h = word-back-by narrow (omega arith) w h
 
--- Taking what was placed gives the fields back.
 pub fields-back : (m : Fields) → Within m → fieldsOf (wordOf m) ≡ m
-unfolding wordOf fieldsOf total
-fields-back m v =
-    rw (
-      at 0 (omega arith) ∙ kept-whole 3 (v .a),
-      at 1 (omega arith) ∙ kept-whole 3 (v .b),
-      at 2 (omega arith) ∙ kept-whole 3 (v .s),
-      at 3 (omega arith) ∙ kept-whole 1 (v .hs),
-      at 4 (omega arith) ∙ kept-whole 3 (v .f),
-      at 5 (omega arith) ∙ kept-whole 1 (v .rd),
-      at 6 (omega arith) ∙ kept-whole 1 (v .wr),
-      at 7 (omega arith) ∙ kept-whole 2 (v .sq),
-      at 8 (omega arith) ∙ kept-whole 6 (v .end),
-    )
-  where
-    at : (i : ℕ) → i < 9 → field (total (drop (suc i) (layout m))) (getD (layout m) i empty .width) (joined 0 (layout m)) ≡ kept (getD (layout m) i empty .width) (getD (layout m) i empty .value)
-    at i h = joined-at (layout m) i 0 0 h (omega arith) (omega arith)
+unfolding wordOf fieldsOf
+fields-back m v = fields-back-by narrow (omega arith) m v
 
--- A word made of fields has 23 bits.
 pub word-below : (m : Fields) → wordOf m < 8388608
-unfolding wordOf total
-word-below m = joined-below (layout m) 0 0 (omega arith) (omega arith)
+unfolding wordOf widths
+word-below m = word-below-by narrow (omega arith) m
 
 -- A choice between 0 and a number stays below a bound.
 cleared : (unused : Bool) {value bound : ℕ} → 0 < bound → value < bound → cond unused 0 value < bound
@@ -176,16 +200,3 @@ same-normal w e = rw e at (form-is-normal w)
 -- The normal form's normal form is itself.
 pub normal-again : (w : ℕ) → normalForm (normalForm w) ≡ normalForm w
 normal-again w = normal-same (normalForm w) (form-is-normal w)
-
--- The search for the first bad line, from line k on: this one is bad, this one is good, or there is none left.
-pub bad-here : (l : List ℕ) (k : ℕ) → k < length l → badWord (getD l k 0) ≡ true → k + firstBad (drop k l) ≡ k
-unfolding firstBad
-bad-here l k h e = rw (drop-cons l k 0, e) (add-zero k)
-
-pub good-here : (l : List ℕ) (k : ℕ) → k < length l → badWord (getD l k 0) ≡ false → k + firstBad (drop k l) ≡ k + 1 + firstBad (drop (k + 1) l)
-unfolding firstBad
-good-here l k h e = rw (add-one, drop-cons l k 0, e) (omega arith)
-
-pub none-bad : (l : List ℕ) (k : ℕ) → length l ≤ k → k + firstBad (drop k l) ≡ k
-unfolding firstBad
-none-bad l k h = rw (drop-of-length-le l) (add-zero k)

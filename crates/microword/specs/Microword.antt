@@ -1,46 +1,82 @@
 -- The control word of 23 bits (01, Registers and microwords; Micro text and images): its fields, bad words, the normal form.
-use Prim.Native.Nat.{ℕ, suc}
+use Prim.Native.Nat.{ℕ, suc, _^_}
 use mathlib.Core.Bool.{Bool, cond, not, _&&_, _||_}
 use mathlib.Core.List.{List, [], _∷_}
+use lib.ListN.{getD, drop}
 use lib.Dec.{leb, ltb, eqb}
-use Rattle.word.specs.Number.{Field, field, joined}
+use Rattle.word.specs.Number.{Field, field, joined, widths}
 use Rattle.microword.specs.declared.Fields.{Fields}
 
--- END is bits 5 to 0 and A is bits 22 to 20.
-unfoldable pub fieldsOf : ℕ → Fields
-fieldsOf w =
+-- What differs between machines: the bits of a register's number and those of a control line.
+pub record Layout : Type 0 where
+  pub register : ℕ
+  pub line : ℕ
+
+-- The widths of the fields, highest first: A, B, S, HS 1, F 3, RD 1, WR 1, SQ 2, END.
+abbrev pub widthsOf : Layout → List ℕ
+widthsOf l = l .register ∷ l .register ∷ l .register ∷ 1 ∷ 3 ∷ 1 ∷ 1 ∷ 2 ∷ l .line ∷ []
+
+-- The bits of a word together.
+abbrev pub bitsOf : Layout → ℕ
+bitsOf l = widths (widthsOf l)
+
+-- The i-th field, above those that stand behind it.
+abbrev pub fieldAt : Layout → ℕ → ℕ → ℕ
+fieldAt l i w = field (widths (drop (suc i) (widthsOf l))) (getD (widthsOf l) i 0) w
+
+unfoldable pub fieldsBy : Layout → ℕ → Fields
+fieldsBy l w =
     record {
-      a = field 20 3 w;
-      b = field 17 3 w;
-      s = field 14 3 w;
-      hs = field 13 1 w;
-      f = field 10 3 w;
-      rd = field 9 1 w;
-      wr = field 8 1 w;
-      sq = field 6 2 w;
-      end = field 0 6 w;
+      a = fieldAt l 0 w;
+      b = fieldAt l 1 w;
+      s = fieldAt l 2 w;
+      hs = fieldAt l 3 w;
+      f = fieldAt l 4 w;
+      rd = fieldAt l 5 w;
+      wr = fieldAt l 6 w;
+      sq = fieldAt l 7 w;
+      end = fieldAt l 8 w;
     }
 
 abbrev pub wide : ℕ → ℕ → Field
 wide width value = record { width = width; value = value }
 
+-- The fields with their widths.
+abbrev pub layoutBy : Layout → Fields → List Field
+layoutBy l m =
+    wide (l .register) (m .a) ∷ wide (l .register) (m .b) ∷ wide (l .register) (m .s) ∷ wide 1 (m .hs) ∷ wide 3 (m .f) ∷ wide 1 (m .rd) ∷ wide 1 (m .wr)
+    ∷ wide 2 (m .sq) ∷ wide (l .line) (m .end) ∷ []
+
+unfoldable pub wordBy : Layout → Fields → ℕ
+wordBy l m = joined 0 (layoutBy l m)
+
+-- RD and WR both 1.
+abbrev pub clash : Fields → Bool
+clash m = eqb (m .rd) 1 && eqb (m .wr) 1
+
+-- Answer 4: a control word of more bits, or with RD and WR both 1.
+unfoldable pub badBy : Layout → ℕ → Bool
+badBy l w = leb (2 ^ bitsOf l) w || clash (fieldsBy l w)
+
 -- Highest field first: A 3, B 3, S 3, HS 1, F 3, RD 1, WR 1, SQ 2, END 6.
+abbrev pub narrow : Layout
+narrow = record { register = 3; line = 6 }
+
+-- END is bits 5 to 0 and A is bits 22 to 20.
+unfoldable pub fieldsOf : ℕ → Fields
+unfolding fieldsBy widths
+fieldsOf w = fieldsBy narrow w
+
 abbrev pub layout : Fields → List Field
-layout m =
-    wide 3 (m .a) ∷ wide 3 (m .b) ∷ wide 3 (m .s) ∷ wide 1 (m .hs) ∷ wide 3 (m .f) ∷ wide 1 (m .rd) ∷ wide 1 (m .wr) ∷ wide 2 (m .sq)
-    ∷ wide 6 (m .end) ∷ []
+layout m = layoutBy narrow m
 
 unfoldable pub wordOf : Fields → ℕ
-wordOf m = joined 0 (layout m)
+unfolding wordBy
+wordOf m = wordBy narrow m
 
 -- Answer 4: a control word of 8,388,608 or more, or with RD and WR both 1.
 unfoldable pub badWord : ℕ → Bool
-badWord w = leb 8388608 w || (eqb (fieldsOf w .rd) 1 && eqb (fieldsOf w .wr) 1)
-
--- How many lines stand before the first bad one, all of them where none is bad.
-unfoldable pub firstBad : List ℕ → ℕ
-firstBad [] = 0
-firstBad (w ∷ ws) = cond (badWord w) 0 (suc (firstBad ws))
+badWord w = leb 8388608 w || clash (fieldsOf w)
 
 -- HS is 0 and SQ is 0 or 3: nothing asks for the result.
 unfoldable pub idle : Fields → Bool

@@ -1,7 +1,7 @@
 // The 23-bit control word: its nine fields taken and placed, bad words, and the normal form.
 ghost use mathlib.Core.Path.{_≡_};
 ghost use mathlib.Core.Bool.{cond};
-ghost use Rattle.microword.specs.Microword.{fieldsOf, wordOf, badWord, firstBad, normalFields, normalForm};
+ghost use Rattle.microword.specs.Microword.{fieldsOf, wordOf, badWord, normalFields, normalForm};
 use word::place;
 use word::take;
 
@@ -53,20 +53,6 @@ pub fn is_bad(word: u32) -> bool
     ensures { λ r. ⌜ r ≡ badWord word ⌝ }
 {
     (8388608 <= word) | ((take(word, 9, 1) == 1) & (take(word, 8, 1) == 1))
-}
-
-// How many lines stand before the first bad one.
-pub fn first_bad(store: &[u32]) -> usize
-    ensures { λ r. ⌜ r ≡ firstBad (now (store .entry)) ⌝ }
-{
-    let mut k = 0;
-    while k < store.len() {
-        if is_bad(store[k]) {
-            return k;
-        }
-        k += 1;
-    }
-    k
 }
 
 // A value, or 0 where its field is without use.

@@ -9,7 +9,7 @@ use lib.ListN.{length, getD, drop}
 use lib.Bits.{bitOr, or-shifted}
 use lib.Arith.{digits-lt}
 use lib.Pow.{pow-pos, pow-lt, pow-mono, pow-add, mod-pow-add, mod-mod-pow, shl-shr, shr-shr, shr-le, shl-lt, high, low, split}
-use Rattle.word.specs.Number.{Field, field, placed, kept, joined, total, sum, difference, bytesOf, wordOf}
+use Rattle.word.specs.Number.{Field, field, placed, kept, joined, total, widths, sum, difference, bytesOf, wordOf}
 
 -- No second answer: a promise `r ≡ d` fixes r.
 pub only : {A : Type 0} {d r r′ : A} → r ≡ d → r′ ≡ d → r ≡ r′
@@ -101,10 +101,6 @@ joined-at (f ∷ fs) (suc i) bits a h small fits =
     joined-at fs i (bits + f .width) (placed a (f .width) (f .value)) (omega arith) (placed-below bits a (f .width) (f .value) small (omega arith)) (omega arith)
 
 -- The fields of a number at these widths, highest first, the last at bit 0.
-unfoldable pub widths : List ℕ → ℕ
-widths [] = 0
-widths (k ∷ ks) = k + widths ks
-
 unfoldable pub taken : List ℕ → ℕ → List Field
 taken [] n = []
 taken (k ∷ ks) n = record { width = k; value = field (widths ks) k n } ∷ taken ks n

@@ -1,7 +1,9 @@
--- Tests: what a conjunction says of its halves, the choice between equals, and a test of every number below a bound.
+-- Tests and choices, once for the whole house: what a conjunction and a disjunction say of their halves, what holds of both sides of a
+-- choice, a table of cases, and a test of every number below a bound.
 use Prim.Native.Nat.{ℕ, zero, suc, _<_}
 use mathlib.Core.Path.{_≡_, refl, ap, _∙_}
-use mathlib.Core.Bool.{Bool, true, false, cond, _&&_}
+use mathlib.Core.Bool.{Bool, true, false, cond, _&&_, _||_, true≢false}
+use native.Mathlib.Decide.{ℕ-discrete}
 use native.Mathlib.Omega.{arith}
 use borrow.Author.Tests.{eqb-true, eqb-false}
 use lib.Dec.{eqb}
@@ -10,6 +12,15 @@ pub both : (a b : Bool) → (a && b) ≡ true → (a ≡ true) × (b ≡ true)
 both true b e = (refl, e)
 both false true e = (e, refl)
 both false false e = (e, e)
+
+pub neither : (a b : Bool) → (a || b) ≡ false → (a ≡ false) × (b ≡ false)
+neither true b e = absurd (true≢false e)
+neither false b e = (refl, e)
+
+-- What holds of both sides holds of the choice.
+pub either : {A : Type 0} (P : A → Type 0) (t : Bool) {x y : A} → P x → P y → P (cond t x y)
+either P true p q = p
+either P false p q = q
 
 pub cond-same : {A : Type 0} (b : Bool) (x : A) → cond b x x ≡ x
 cond-same true x = refl
@@ -28,3 +39,13 @@ all-at (suc n) p e k h = go (eqb k n) refl (all-at n p (both (p n) (all n p) e .
     go : (b : Bool) → eqb k n ≡ b → (k < n → p k ≡ true) → p k ≡ true
     go true q f = ap p (eqb-true k n q) ∙ both (p n) (all n p) e .0
     go false q f = let d = eqb-false k n q in f (omega arith)
+
+-- A statement for each number below n, one after the other: a table of cases.
+infixl 20 _also_
+pub data Each (P : ℕ → Type 0) : ℕ → Type 0 where
+  none : Each P 0
+  _also_ : {n : ℕ} → Each P n → P n → Each P (suc n)
+
+pub each : {P : ℕ → Type 0} {n : ℕ} → Each P n → (k : ℕ) → k < n → P k
+each none k h = let z : ⊥ = omega arith in absurd z
+each {P} (_also_ {n} ps p) k h = elim (ℕ-discrete k n) [ yes e ↦ rw e p | no d ↦ each ps k (omega arith) ]

@@ -30,6 +30,11 @@ unfoldable pub total : List Field → ℕ
 total [] = 0
 total (f ∷ fs) = f .width + total fs
 
+-- Widths together: where the fields of these widths, the last at bit 0, begin above.
+unfoldable pub widths : List ℕ → ℕ
+widths [] = 0
+widths (k ∷ ks) = k + widths ks
+
 -- Sums and differences are taken modulo 2 ^ width.
 abbrev pub sum : ℕ → ℕ → ℕ → ℕ
 sum width a b = kept width (a + b)

@@ -8,7 +8,7 @@ use Rattle.microword.specs.declared.Fields.{Fields}
 use Rattle.microword.specs.Microword.{fieldsOf}
 use Rattle.microword.proofs.Laws.{Within, fields-within}
 use Rattle.cycle.specs.Cycle.{result, stored, nextLine}
-use Rattle.cycle.specs.Standing.{beginning}
+use Rattle.cycle.specs.Standing.{beginning, beginningOn}
 use Rattle.cycle.proofs.begin.Statement.{statement}
 use Rattle.cycle.proofs.begin.Tie as tie
 
@@ -16,9 +16,9 @@ within : {m : Fields} (w : ℕ) → m ≡ fieldsOf w → Within m
 within w e = rw e (fields-within w)
 
 begins : (word line : ℕ) (registers : List ℕ) {value next : ℕ} {registers₁ : List ℕ} {m : Fields} → m ≡ fieldsOf word → value ≡ result m registers
-    → next ≡ nextLine m value line → registers₁ ≡ stored m value registers
+    → next ≡ nextLine 6 m value line → registers₁ ≡ stored m value registers
     → beginning word line registers ≡ record { fields = m; next = next; stood = getD registers (m .s) 0; registers = registers₁ }
-unfolding beginning
+unfolding beginningOn
 begins word line registers fields computed on kept = rw (kept, on, computed, fields)
 
 fields-of-requires : tie.Need-fields-of-requires

@@ -12,7 +12,7 @@ rest-requires : tie.Need-rest-requires
 rest-requires c κs = search needs
 
 returns : tie.Need-returns
-returns c = rw (c .rest .ensures) (rests _ _ _ (c .before .before .before .before .before .before .begin .ensures) (c .before .if1 .taken))
+returns c = rw (c .rest .ensures) (rests _ _ _ _ (c .before .before .before .before .before .before .begin .ensures) (c .before .if1 .taken))
 
 element-copy-out-t22 : tie.Need-element-copy-out-t22
 element-copy-out-t22 c = search needs
@@ -39,7 +39,7 @@ same-length-2 : tie.Need-same-length-2
 same-length-2 c = search needs
 
 returns-2 : tie.Need-returns-2
-returns-2 c = refused _ _ _ (c .before .before .before .before .before .before .before .before .before .before .before .before .before .before .before .before .before .before .begin .ensures) (c .before .before .before .before .before .before .transfer .ensures) (c .before .if2 .taken)
+returns-2 c = refused _ _ _ _ (c .before .before .before .before .before .before .before .before .before .before .before .before .before .before .before .before .before .before .begin .ensures) (c .before .before .before .before .before .before .transfer .ensures) (c .before .if2 .taken)
 
 arrive-requires : tie.Need-arrive-requires
 arrive-requires c κs = search needs
@@ -51,7 +51,7 @@ same-length-4 : tie.Need-same-length-4
 same-length-4 c = search needs
 
 returns-3 : tie.Need-returns-3
-returns-3 c = rw (c .arrive .ensures) (carried _ _ _ (c .before .before .before .before .before .before .before .before .before .before .before .before .before .before .before .before .before .before .before .begin .ensures) (c .before .before .before .before .before .before .before .transfer .ensures) (c .before .before .if2 .left))
+returns-3 c = rw (c .arrive .ensures) (carried _ _ _ _ (c .before .before .before .before .before .before .before .before .before .before .before .before .before .before .before .before .before .before .before .begin .ensures) (c .before .before .before .before .before .before .before .transfer .ensures) (c .before .before .if2 .left))
 
 pub step-spec : {M : Type 1} → statement M
 step-spec =

@@ -12,6 +12,7 @@ use Rattle.cycle.specs.Cycle.{State}
 use Rattle.engine.specs.Run.{cycles, plus, saying}
 use Rattle.cycle.specs.Standing.{standing}
 use Rattle.cycle.proofs.Laws.{line-within}
+use Rattle.microword.proofs.Laws.{fields-within}
 use Rattle.engine.proofs.Laws.{plus-none, goes-on, stops, ends}
 use Rattle.engine.proofs.repeat.Statement.{statement}
 use Rattle.engine.proofs.repeat.Tie as tie
@@ -68,7 +69,7 @@ loop-less c = omega arith
 loop-again : tie.Need-loop-again Inv-loop μ-loop
 loop-again c = record {
   within = omega arith;
-  inside = line-within _ _ _ (c .before .before .before .before .before .before .before .before .before .before .before .before .before .loop .inv .inside) (c .before .before .before .before .before .before .step .ensures);
+  inside = line-within 6 _ _ _ (fields-within _ .end) (c .before .before .before .before .before .before .before .before .before .before .before .before .before .loop .inv .inside) (c .before .before .before .before .before .before .step .ensures);
   words = c .before .before .before .before .before .before .step .kept .1 .0 ∙ c .before .before .before .before .before .before .before .before .before .before .before .before .before .loop .inv .words;
   room = c .before .before .before .before .before .before .step .kept .1 .1 .1 .0 ∙ c .before .before .before .before .before .before .before .before .before .before .before .before .before .loop .inv .room;
   same = c .before .before .before .before .before .before .before .before .before .before .before .before .before .loop .inv .same ∙ goes-on _ _ _ (c .before .before .before .before .before .before .before .before .before .before .before .before .loop-test .taken) (c .before .before .before .before .before .before .step .ensures) refl (c .if1 .left);

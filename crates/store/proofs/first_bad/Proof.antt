@@ -5,13 +5,13 @@ use lib.ListN.{length, drop}
 use borrow.Author.Needs.{needs}
 use Prim.Native.Nat.{_≤_, _+_, _-_}
 use native.Mathlib.Omega.{arith}
-use Rattle.microword.proofs.Laws.{bad-here, good-here, none-bad}
-use Rattle.microword.specs.Microword.{firstBad}
-use Rattle.microword.proofs.first_bad.Statement.{statement}
-use Rattle.microword.proofs.first_bad.Tie as tie
+use Rattle.store.proofs.Laws.{bad-here, good-here, none-bad}
+use Rattle.store.specs.Store.{goodBefore}
+use Rattle.store.proofs.first_bad.Statement.{statement}
+use Rattle.store.proofs.first_bad.Tie as tie
 
 abbrev Inv-loop : tie.InvT-loop
-Inv-loop store k₀ k = (k ≤ length store) × (firstBad store ≡ k + firstBad (drop k store))
+Inv-loop store k₀ k = (k ≤ length store) × (goodBefore store ≡ k + goodBefore (drop k store))
 
 abbrev μ-loop : tie.MeasureT-loop
 μ-loop store k₀ k = length store - k
