@@ -4,9 +4,9 @@ ghost use mathlib.Core.List.{[], _∷_, _++_};
 ghost use Prim.Native.Nat.{_+_, _<_, _≤_};
 ghost use lib.ListN.{length};
 ghost use Rattle.microtext.specs.Listing.{decimal, transferPart};
-ghost use Rattle.room.specs.Laid.{Wrote};
-ghost use Rattle.microline.specs.Pieces.{Small, table, Chosen, spelt, Known, Spells, to, first, second, target, texts as Pieces·texts, starts as Pieces·starts, parts as Pieces·parts};
+ghost use Rattle.text.specs.Laid.{Wrote};
 ghost use Rattle.microline.specs.Line.{laidLine};
+ghost use Rattle.microline.specs.Code.Pieces.{Small, table, Chosen, spelt, Known, Spells, to, first, second, target, texts as Pieces·texts, starts as Pieces·starts, parts as Pieces·parts};
 use microword::Fields;
 use microword::fields_of;
 
@@ -88,7 +88,7 @@ fn put_pieces(room: &mut [u8], from: usize, texts: &[u8], starts: &[u8], which: 
         let k = which[i];
         let start = starts[k] as usize;
         let end = starts[k + 1] as usize;
-        at = room::put(room, at, &texts[start..end]);
+        at = text::put(room, at, &texts[start..end]);
         i += 1;
     }
     at

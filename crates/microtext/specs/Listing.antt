@@ -6,16 +6,16 @@ use lib.Dec.{ltb, eqb}
 use lib.ListN.{getD}
 use Rattle.microword.specs.Microword.{fieldsOf, normalForm, idle}
 use Rattle.microword.specs.declared.Fields.{Fields}
-use Rattle.token.specs.Text.{bytes}
 use Rattle.part.specs.Grammar.{registers}
+use Rattle.text.specs.Text.{bytes}
 
 -- A number below 100 in decimal, with no leading zero; byte 48 is the digit 0.
 unfoldable pub decimal : ℕ → List ℕ
 decimal k = cond (ltb k 10) ((48 + k) ∷ []) ((48 + k / 10) ∷ (48 + k % 10) ∷ [])
 
 -- A register by its name.
-abbrev pub register : ℕ → List ℕ
-register r = getD registers r []
+abbrev pub registerName : ℕ → List ℕ
+registerName r = getD registers r []
 
 -- What F computes of the registers a and b: r, r+1, r-1, r+r, r-r, r^r, <<r, >>r.
 unfoldable pub formulas : List ℕ → List ℕ → List (List ℕ)
@@ -24,22 +24,22 @@ formulas a b =
     ∷ (bytes ">>" ++ a) ∷ []
 
 abbrev pub formula : Fields → List ℕ
-formula m = getD (formulas (register (m .a)) (register (m .b))) (m .f) []
+formula m = getD (formulas (registerName (m .a)) (registerName (m .b))) (m .f) []
 
 -- `alu` stores nothing.
 abbrev pub destination : Fields → List ℕ
-destination m = cond (eqb (m .hs) 0) (bytes "alu") (register (m .s))
+destination m = cond (eqb (m .hs) 0) (bytes "alu") (registerName (m .s))
 
 -- An operation is a register or `alu`, `:=`, and one of the formulas; no brackets.
 unfoldable pub operation : Fields → List ℕ
 operation m = destination m ++ bytes ":=" ++ formula m
 
 -- Jumps, by SQ: none, `if n then goto k`, `if z then goto k`, `goto k`.
-unfoldable pub jumps : List (List ℕ)
-jumps = [] ∷ bytes "if n then goto " ∷ bytes "if z then goto " ∷ bytes "goto " ∷ []
+unfoldable pub jumpTexts : List (List ℕ)
+jumpTexts = [] ∷ bytes "if n then goto " ∷ bytes "if z then goto " ∷ bytes "goto " ∷ []
 
 unfoldable pub jump : Fields → List ℕ
-jump m = getD jumps (m .sq) [] ++ decimal (m .end)
+jump m = getD jumpTexts (m .sq) [] ++ decimal (m .end)
 
 -- For each part a space, the part, a semicolon.
 abbrev pub part : Bool → List ℕ → List ℕ

@@ -1,6 +1,6 @@
 // The control store: the control word at a line, and the first bad line.
 ghost use mathlib.Core.Path.{_≡_};
-ghost use Rattle.store.specs.Store.{controlWord, withWord, firstBad};
+ghost use Rattle.store.specs.Store.{wrongStore, controlWord, withWord, firstBad};
 use word::Line;
 
 // The control word at a line; past the store's end it is 0.
@@ -33,4 +33,11 @@ pub fn first_bad(store: &[u32]) -> usize
         k += 1;
     }
     k
+}
+
+// 1: a control store not of 64 words.
+pub fn is_wrong(store: &[u32]) -> bool
+    ensures { λ r. ⌜ r ≡ wrongStore (now (store .entry)) ⌝ }
+{
+    store.len() != 64
 }

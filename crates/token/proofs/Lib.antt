@@ -3,4 +3,5 @@ pub mod Packed
 pub mod Split
 pub mod Scan
 pub mod Next
+pub mod Decimals
 pub mod Laws

@@ -5,7 +5,7 @@ use mathlib.Core.List.{List, map}
 use lib.ListN.{length, take}
 use Rattle.microword.specs.Microword.{normalForm}
 use Rattle.lister.specs.Answers.{listed}
-use Rattle.assembler.specs.Assembled.{assembled}
+use Rattle.microassembler.specs.Assembled.{assembled}
 
 -- A store that the lister lists: its text is what stands at the room's start.
 abbrev pub text : List ℕ → List ℕ → List ℕ

@@ -7,12 +7,12 @@ use borrow.Author.Needs.{needs}
 use mathlib.Core.List.{[], _∷_}
 use lib.ListN.{set, length-append, length-set}
 use Rattle.microtext.specs.Listing.{decimal, line}
-use Rattle.room.specs.Laid.{Wrote}
-use Rattle.room.proofs.Laws.{_then_, same-text}
-use Rattle.microline.specs.Pieces.{Small}
+use Rattle.text.specs.Laid.{Wrote}
+use Rattle.text.proofs.Laid.{_then_, same-text}
 use Rattle.microline.specs.Line.{laidLine}
 use Rattle.microline.proofs.Laws.{small, line-pieces, line-room, laid-line}
 use Rattle.microline.proofs.put_line.Statement.{statement}
+use Rattle.microline.specs.Code.Pieces.{Small}
 use Rattle.microline.proofs.put_line.Tie as tie
 
 returns : tie.Need-returns

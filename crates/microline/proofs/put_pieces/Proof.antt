@@ -7,10 +7,10 @@ use denote.Ref.{now}
 use lib.ListN.{length, getD, drop}
 use lib.Seq.{sets}
 use borrow.Author.Needs.{needs}
-use Rattle.room.proofs.Laws.{wrote, same-text, stored-on}
-use Rattle.microline.specs.Pieces.{spelt}
+use Rattle.text.proofs.Laid.{wrote, same-text, stored-on}
 use Rattle.microline.proofs.Laws.{table-entry, texts-known, starts-known, spelt-next, spelt-length, spelt-end, known-at}
 use Rattle.microline.proofs.put_pieces.Statement.{statement}
+use Rattle.microline.specs.Code.Pieces.{spelt}
 use Rattle.microline.proofs.put_pieces.Tie as tie
 
 abbrev Inv-loop : tie.InvT-loop

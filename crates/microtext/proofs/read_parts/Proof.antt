@@ -7,9 +7,9 @@ use borrow.Author.Needs.{needs}
 use mathlib.Core.Bool.{cond}
 use lib.ListN.{length}
 use Rattle.microtext.proofs.Reached.{Reached, reached-start, reached-next, reached-end, remaining, remaining-less}
-use Rattle.microtext.specs.Progress.{concluded}
 use Rattle.microtext.specs.Reading.{reading}
 use Rattle.microtext.proofs.read_parts.Statement.{statement}
+use Rattle.microtext.specs.Code.Progress.{concluded}
 use Rattle.microtext.proofs.read_parts.Tie as tie
 
 abbrev Inv-loop : tie.InvT-loop

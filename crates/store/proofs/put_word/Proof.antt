@@ -5,6 +5,9 @@ use borrow.Author.Needs.{needs}
 use Rattle.store.proofs.put_word.Statement.{statement}
 use Rattle.store.proofs.put_word.Tie as tie
 
+cast-k : tie.Need-cast-k
+cast-k c = search needs
+
 mul-store : tie.Need-mul-store
 mul-store c = search needs
 
@@ -21,4 +24,4 @@ returns-2 : tie.Need-returns-2
 returns-2 c = sym (set-out _ _ _ (c .if1 .left))
 
 pub put-word-spec : {M : Type 1} → statement M
-put-word-spec = tie.close (tie.spec mul-store slice-write-store same-length returns returns-2)
+put-word-spec = tie.close (tie.spec cast-k mul-store slice-write-store same-length returns returns-2)

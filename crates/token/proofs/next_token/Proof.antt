@@ -1,8 +1,10 @@
 -- `next_token` goes by the first byte that is no space; behind the spaces the same is scanned.
 use mathlib.Core.Path.{sym, ap, _∙_}
 use denote.Ref.{now}
-use Rattle.token.specs.Tokens.{letter, digit}
-use Rattle.token.proofs.Scan.{text-ends, line-ends, no-token}
+use Rattle.text.specs.Decimal.{digit}
+use Rattle.text.proofs.Lines.{text-ends, line-ends}
+use Rattle.token.specs.Tokens.{letter}
+use Rattle.token.proofs.Scan.{no-token}
 use borrow.Author.Needs.{needs}
 use Rattle.token.proofs.next_token.Statement.{statement}
 use Rattle.token.proofs.next_token.Tie as tie

@@ -6,7 +6,7 @@ use lib.ListN.{length}
 use denote.Ref.{now}
 use borrow.Author.Tests.{not-true, not-false}
 use borrow.Author.Needs.{needs}
-use Rattle.token.specs.Tokens.{digit}
+use Rattle.text.specs.Decimal.{digit}
 use Rattle.token.proofs.Scan.{Run, digits, run-first, run-more, run-ends}
 use Rattle.token.proofs.number_from.Statement.{statement}
 use Rattle.token.proofs.number_from.Tie as tie
