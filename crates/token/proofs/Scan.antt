@@ -1,27 +1,20 @@
 -- Scanning: the bytes of the token under way, with nothing of the line lost, up to the token's end.
-use Prim.Native.Nat.{ℕ, suc, _+_, _*_, _^_, _≤_, _<_}
+use Prim.Native.Nat.{ℕ, suc, _+_, _*_, _^_, _<_}
 use Prim.Native.Char.{code}
 use mathlib.Core.Path.{_≡_, refl, sym, ap, _∙_}
-use mathlib.Core.Bool.{Bool, true, false, _&&_, _||_, and-true, and-false, and-assoc, or-false, true≢false}
+use mathlib.Core.Bool.{Bool, true, false, _||_, and-false, true≢false}
 use mathlib.Core.List.{List, [], _∷_, _++_}
 use native.Mathlib.Omega.{arith}
-use borrow.Author.Tests.{eqb-true, eqb-false, ltb-true, ltb-false, leb-true, ne-eqb, lt-ltb, lt-leb}
-use lib.Dec.{leb, ltb, eqb}
+use borrow.Author.Tests.{eqb-true, eqb-false, ltb-true, ltb-false, ne-eqb, lt-ltb}
+use lib.Dec.{ltb, eqb}
 use lib.ListN.{length, getD, length-append}
 use Rattle.text.specs.Text.{same, lineAt}
-use Rattle.text.specs.Decimal.{digit}
 use Rattle.text.proofs.Lines.{text-ends, line-ends, line-goes-on}
-use Rattle.token.specs.Tokens.{Token, letter, every, oneToken, under, ended, going, tokensAfter, tokens, startedBy}
-use Rattle.token.specs.Next.{grown, packed, first, spaces, scanned}
-use Rattle.token.proofs.Packed.{packed-more, short, known}
+use Rattle.token.specs.Tokens.{Token, every, oneToken, under, ended, going, tokensAfter, tokens, startedBy}
+use Rattle.token.specs.Next.{packed, first, spaces, scanned}
+use Rattle.token.proofs.Packed.{short, known}
 use Rattle.token.proofs.Split.{tokens-first}
-use Rattle.word.proofs.Tests.{both}
 use Rattle.token.specs.Code.Numbers.{numeral, spelt, BeginsSign}
-
-pub every-more : (p : ℕ → Bool) (t : List ℕ) (c : ℕ) → every p (t ++ c ∷ []) ≡ (every p t && p c)
-unfolding every
-every-more p [] c = and-true (p c)
-every-more p (x ∷ t) c = rw (every-more p t c) (sym (and-assoc (p x) (every p t) (p c)))
 
 -- What is scanned where the line's tokens are known.
 found : (text : List ℕ) (at n k start behind : ℕ) (t : Token) → n ≡ packed t → first (tokens (lineAt text at)) ≡ t → spaces (lineAt text at) ≡ k
@@ -90,77 +83,6 @@ module _ (text : List ℕ) (at x : ℕ) (t : List ℕ) (i : ℕ) (a : Along text
   pub token-ends : (token : ℕ) → token ≡ packed (x ∷ t) → record { token = token; start = at; behind = i } ≡ scanned text at
   unfolding first
   token-ends token e = found text at token 0 at i (x ∷ t) e (ap first (sym (a .kept) ∙ ends)) (a .no-space) (omega arith) (omega (arith, a .here))
-
--- A class of bytes whose runs are tokens: a token that begins in it is a run of it.
-pub record Class (p : ℕ → Bool) : Type 0 where
-  pub runs : (x : ℕ) (t : List ℕ) → p x ≡ true → oneToken (x ∷ t) ≡ every p (x ∷ t)
-  pub no-space : p (code " ") ≡ false
-  pub no-end : p 10 ≡ false
-
-pub letters : Class letter
-unfolding oneToken every same
-letters = record { runs = runs; no-space = refl; no-end = refl }
-  where
-    runs : (x : ℕ) (t : List ℕ) → letter x ≡ true → oneToken (x ∷ t) ≡ every letter (x ∷ t)
-    runs x t e =
-        let h : 97 ≤ x = leb-true 97 x (both (leb 97 x) (leb x 122) e .0) in
-        simp (lt-leb x 57 (omega arith), ne-eqb x 58 (λ z. omega arith), ne-eqb x 60 (λ z. omega arith), ne-eqb x 62 (λ z. omega arith), and-false, or-false)
-
-pub digits : Class digit
-unfolding oneToken every same
-digits = record { runs = runs; no-space = refl; no-end = refl }
-  where
-    runs : (x : ℕ) (t : List ℕ) → digit x ≡ true → oneToken (x ∷ t) ≡ every digit (x ∷ t)
-    runs x t e =
-        let h : x ≤ 57 = leb-true x 57 (both (leb 48 x) (leb x 57) e .1) in
-        simp (lt-leb 97 x (omega arith), ne-eqb x 58 (λ z. omega arith), ne-eqb x 60 (λ z. omega arith), ne-eqb x 62 (λ z. omega arith), or-false)
-
--- What the scanning of a run from `at` holds at i.
-pub record Run (p : ℕ → Bool) (text : List ℕ) (at token i : ℕ) : Type 0 where
-  pub first : ℕ
-  pub rest : List ℕ
-  pub all : every p (first ∷ rest) ≡ true
-  pub number : token ≡ packed (first ∷ rest)
-  pub small : token < 2 ^ 41
-  pub along : Along text at (first ∷ rest) i
-
-module _ (p : ℕ → Bool) (of-class : Class p) (text : List ℕ) where
-  -- A run goes on with a byte just where the class has it.
-  goes-on : (at token i c : ℕ) (r : Run p text at token i) → oneToken (r .first ∷ r .rest ++ c ∷ []) ≡ p c
-  unfolding every
-  goes-on at token i c r =
-      of-class .runs (r .first) (r .rest ++ c ∷ []) (both (p (r .first)) (every p (r .rest)) (r .all) .0)
-      ∙ every-more p (r .first ∷ r .rest) c ∙ rw (r .all)
-
-  module _ (i c : ℕ) (h : i < length text) (q : c ≡ getD text i 0) (l : c < 256) (e : p c ≡ true) where
-    no-end : c ≡ 10 → ⊥
-    no-end z = true≢false (sym e ∙ ap p z ∙ of-class .no-end)
-
-    pub run-first : Run p text i (256 + c) (i + 1)
-    unfolding every
-    run-first =
-        record {
-          first = c;
-          rest = [];
-          all = rw e;
-          number = refl;
-          small = omega arith;
-          along = along-first text i c h q no-end (λ z. true≢false (sym e ∙ ap p z ∙ of-class .no-space));
-        }
-
-    pub run-more : (at token next : ℕ) → Run p text at token i → next ≡ grown token c → next < 2 ^ 41 → Run p text at next (i + 1)
-    run-more at token next r g s =
-        record {
-          first = r .first;
-          rest = r .rest ++ c ∷ [];
-          all = every-more p (r .first ∷ r .rest) c ∙ rw (r .all, e);
-          number = g ∙ ap (λ (x : ℕ). grown x c) (r .number) ∙ sym (packed-more 1 (r .first ∷ r .rest) c);
-          small = s;
-          along = along-more text i c h q no-end at (r .first ∷ r .rest) (r .along) (goes-on at token i c r ∙ e);
-        }
-
-  pub run-ends : (at token i : ℕ) → Run p text at token i → (i < length text → p (getD text i 0) ≡ false) → record { token = token; start = at; behind = i } ≡ scanned text at
-  run-ends at token i r n = token-ends text at (r .first) (r .rest) i (r .along) (λ h. goes-on at token i (getD text i 0) r ∙ n h) token (r .number)
 
 -- Whether two bytes are `:=`, `<<` or `>>`, by their number.
 abbrev pub pairs : ℕ → ℕ → Bool

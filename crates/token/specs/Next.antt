@@ -1,15 +1,12 @@
 -- A token as a number, and the next token of a line: what `next_token` promises.
-use Prim.Native.Nat.{ℕ, suc, _+_, _-_, _*_, _/_, _%_, _^_}
+use Prim.Native.Nat.{ℕ, suc, _+_, _*_, _^_}
 use Prim.Native.Char.{code}
-use Prim.Native.String.{String}
-use mathlib.Core.Path.{_≡_}
-use mathlib.Core.Bool.{false, cond, _&&_}
-use mathlib.Core.List.{List, [], _∷_, map}
-use lib.Dec.{leb, ltb, eqb}
+use mathlib.Core.Bool.{cond}
+use mathlib.Core.List.{List, [], _∷_}
+use lib.Dec.{ltb, eqb}
 use lib.ListN.{length}
-use Rattle.text.specs.Text.{bytes, lineAt}
-use Rattle.text.specs.Decimal.{digit}
-use Rattle.token.specs.Tokens.{Token, letter, tokens}
+use Rattle.text.specs.Text.{lineAt}
+use Rattle.token.specs.Tokens.{Token, tokens}
 use Rattle.token.specs.declared.Scanned.{Scanned}
 
 -- A token's bytes behind a 1, as the digits of one number to the base 256. No token of the grammar has more than four bytes, so the fifth is

@@ -11,10 +11,10 @@ use Rattle.part.specs.Grammar.{part}
 use Rattle.microtext.specs.Line.{cut, divided, lastPart, parts}
 use Rattle.part.specs.declared.Part.{Part}
 use Rattle.word.proofs.Tests.{both}
-use Rattle.token.proofs.Scan.{every-more}
 use Rattle.microtext.proofs.Whole.{divided-some}
 use Rattle.text.specs.Text.{same, _is_}
 use Rattle.text.specs.Decimal.{digit}
+use Rattle.token.proofs.Runs.{every-more}
 use Rattle.way_back.proofs.Printed.{undivided}
 
 -- A byte that goes on with no token: no letter, no digit, and none that ends `:=`, `<<` or `>>`.

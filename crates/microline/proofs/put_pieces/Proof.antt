@@ -94,7 +94,9 @@ loop-less : tie.Need-loop-less Inv-loop μ-loop
 loop-less c = omega arith
 
 loop-again : tie.Need-loop-again Inv-loop μ-loop
-loop-again c = let l = c .before .before .before .before .before .before .before .before .before in
+loop-again c =
+    let earlier = c .before .before .before .before .before .before .before .before in
+    let l = earlier .before in
     let s = l .before .before .before .before .before in
     let k = getD (now (s .args .which)) (l .loop .i) 0 in
     let known : k < 47 = known-at (now (s .args .which)) (l .loop .i) (s .pre .1 .0) (c .before .before .before .before .before .before .before .before .loop-test .taken) in

@@ -45,7 +45,8 @@ read-parts-requires c κs = search needs
 
 returns-4 : tie.Need-returns-4
 returns-4 c =
-    let s = c .before .before .before .before .before .before .before .before .before in
+    let earlier = c .before .before .before .before .before .before .before .before in
+    let s = earlier .before in
     let text = now (s .args .text) in
     let bytes = bytes-all text (λ i. omega (arith, c .before .before .before .before .before .before .before .before .shared-slice-known .given i)) in
     let n = c .before .before .before .before .before in
