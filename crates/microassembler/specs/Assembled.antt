@@ -48,7 +48,7 @@ abbrev pub outcome : List ℕ → Words → Outcome
 outcome store (laid ws) = record { answer = 0; store = ws }
 outcome store (faulty fault) = record { answer = faultNumber fault; store = store }
 
--- The assembler: 1, 10, then lines in turn; a refusal leaves the store as found.
+-- The order: 1, 10, then lines in turn; a refusal leaves the store as found.
 unfoldable pub assembled : List ℕ → List ℕ → Outcome
 assembled text store =
     cond (wrongStore store) (record { answer = 1; store = store })

@@ -12,11 +12,12 @@ use lib.ListN.{length, getD, take, drop, length-append, drop-of-length-le}
 use lib.Seq.{drop-cons, take-append-seam, drop-append-seam, getD-take, getD-drop}
 use Rattle.microword.specs.Microword.{fieldsOf, normalFields, idle, binary}
 use Rattle.microword.specs.declared.Fields.{Fields}
-use Rattle.microtext.specs.Listing.{decimal, formulas, formula, destination, operation, operationPart, jump, jumpPart, part, line, transferPart, registerName, jumpTexts}
+use Rattle.microtext.specs.Listing.{formulas, formula, destination, operation, operationPart, jump, jumpPart, part, line, transferPart, registerName, jumpTexts}
 use Rattle.part.specs.Grammar.{registers}
 use Rattle.text.specs.Text.{bytes}
 use Rattle.text.specs.Laid.{Laid, Wrote}
 use Rattle.text.proofs.Laid.{wrote, laid-stored}
+use Rattle.text.specs.Decimal.{shortDecimal}
 use Rattle.microline.specs.Line.{laidLine}
 use Rattle.microline.specs.Code.Pieces.{Small, stores, destinations, signsBefore, signsBehind, ends, seconds, transfers, jumpWords, table, texts, starts, Chosen, spelt, Known, Spells, to, first, second, parts, target}
 
@@ -165,7 +166,7 @@ jump-pieces : (m : Fields) → m .sq < 4 → jumpPart m ≡ getD jumpWords (m .s
 unfolding jump jumpTexts jumpWords target
 jump-pieces m h = go (m .sq) h
   where
-    go : (sq : ℕ) → sq < 4 → part (not (eqb sq 0)) (getD jumpTexts sq [] ++ decimal (m .end)) ≡ getD jumpWords sq [] ++ cond (eqb sq 0) [] (decimal (m .end) ++ bytes ";")
+    go : (sq : ℕ) → sq < 4 → part (not (eqb sq 0)) (getD jumpTexts sq [] ++ shortDecimal (m .end)) ≡ getD jumpWords sq [] ++ cond (eqb sq 0) [] (shortDecimal (m .end) ++ bytes ";")
     go zero p = refl
     go (suc zero) p = refl
     go (suc (suc zero)) p = refl
@@ -176,11 +177,11 @@ regrouped : (number operation move words aim : List ℕ)
     → number ++ bytes ":" ++ (operation ++ move ++ words) ++ aim ++ 10 ∷ [] ≡ number ++ bytes ":" ++ operation ++ move ++ (words ++ aim) ++ 10 ∷ []
 regrouped number operation move words aim = simp append-assoc
 
-pub line-pieces : (number : ℕ) (m : Fields) → m .sq < 4 → decimal number ++ bytes ":" ++ parts m ++ target m ++ 10 ∷ [] ≡ line number m
+pub line-pieces : (number : ℕ) (m : Fields) → m .sq < 4 → shortDecimal number ++ bytes ":" ++ parts m ++ target m ++ 10 ∷ [] ≡ line number m
 unfolding line parts
 line-pieces number m h =
-    regrouped (decimal number) (operationPart m) (transferPart m) (getD jumpWords (m .sq) []) (target m)
-    ∙ ap (λ (j : List ℕ). decimal number ++ bytes ":" ++ operationPart m ++ transferPart m ++ j ++ 10 ∷ []) (sym (jump-pieces m h))
+    regrouped (shortDecimal number) (operationPart m) (transferPart m) (getD jumpWords (m .sq) []) (target m)
+    ∙ ap (λ (j : List ℕ). shortDecimal number ++ bytes ":" ++ operationPart m ++ transferPart m ++ j ++ 10 ∷ []) (sym (jump-pieces m h))
 
 -- The pieces from one on.
 pub spelt-next : (which : List ℕ) (i : ℕ) → i < length which
@@ -224,8 +225,8 @@ formula-le m =
     short-at 9 (formulas (registerName (m .a)) (registerName (m .b))) (m .f)
     (simp length-append (omega (arith, register-le (m .a), register-le (m .b))))
 
-decimal-le : (k : ℕ) → length (decimal k) ≤ 2
-unfolding decimal
+decimal-le : (k : ℕ) → length (shortDecimal k) ≤ 2
+unfolding shortDecimal
 decimal-le k = go (ltb k 10)
   where
     go : (b : Bool) → length (cond b ((48 + k) ∷ []) ((48 + k / 10) ∷ (48 + k % 10) ∷ [])) ≤ 2
@@ -293,7 +294,7 @@ operation-same true used hs f a b s h e = refl
 operation-same false used hs f a b s h e =
     ap₂ (λ (d : List ℕ) (t : List ℕ). part true (d ++ bytes ":=" ++ t)) (destination-same (eqb hs 0) s) (formula-same used f (registerName a) b h e)
 
-jump-same : (unused : Bool) (words : List ℕ) (end : ℕ) → part (not unused) (words ++ decimal (cond unused 0 end)) ≡ part (not unused) (words ++ decimal end)
+jump-same : (unused : Bool) (words : List ℕ) (end : ℕ) → part (not unused) (words ++ shortDecimal (cond unused 0 end)) ≡ part (not unused) (words ++ shortDecimal end)
 jump-same true words end = refl
 jump-same false words end = refl
 
@@ -302,10 +303,10 @@ unfolding line operation jump normalFields idle binary
 line-normal number m h =
     let o = operation-same (idle m) (binary m) (m .hs) (m .f) (m .a) (m .b) (m .s) h refl in
     let j = jump-same (eqb (m .sq) 0) (getD jumpTexts (m .sq) []) (m .end) in
-    ap₂ (λ (x : List ℕ) (y : List ℕ). decimal number ++ bytes ":" ++ x ++ transferPart m ++ y ++ 10 ∷ []) o j
+    ap₂ (λ (x : List ℕ) (y : List ℕ). shortDecimal number ++ bytes ":" ++ x ++ transferPart m ++ y ++ 10 ∷ []) o j
 
 -- The room that a line's pieces need.
-pub line-room : (number : ℕ) (m : Fields) → m .sq < 4 → length (decimal number) + 1 + length (parts m) + length (target m) + 1 ≤ 44
+pub line-room : (number : ℕ) (m : Fields) → m .sq < 4 → length (shortDecimal number) + 1 + length (parts m) + length (target m) + 1 ≤ 44
 line-room number m h = omega (arith, simp length-append at (ap length (line-pieces number m h)), line-le number m)
 
 -- A line that was put is laid; a smaller room, or one for a number above 63, is as found.
@@ -322,7 +323,7 @@ unfolding laidLine
 wrote-line number word wide below e =
     wrote (omega (arith, line-le number (fieldsOf word))) (rw (le-ltb _ _ wide, le-ltb _ _ below) at e)
 
--- No second answer: the promise fixes the room and the place.
+-- No second answer: the promise fixes the room and where the line ends.
 pub only : (room : List ℕ) (number word : ℕ) (left left′ : List ℕ) (r r′ : ℕ) → laidLine room number word ≡ record { room = left; next = r }
     → laidLine room number word ≡ record { room = left′; next = r′ } → (r ≡ r′) × (left ≡ left′)
 only room number word left left′ r r′ p q =

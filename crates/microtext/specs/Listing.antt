@@ -1,17 +1,14 @@
 -- The bytes of a listing (01, Micro text and images): of an operation, of a jump, of a line, of a control store.
-use Prim.Native.Nat.{ℕ, suc, _+_, _/_, _%_}
+use Prim.Native.Nat.{ℕ, suc, _+_}
 use mathlib.Core.Bool.{Bool, cond, not, _||_}
 use mathlib.Core.List.{List, [], _∷_, _++_}
-use lib.Dec.{ltb, eqb}
+use lib.Dec.{eqb}
 use lib.ListN.{getD}
 use Rattle.microword.specs.Microword.{fieldsOf, normalForm, idle}
 use Rattle.microword.specs.declared.Fields.{Fields}
 use Rattle.part.specs.Grammar.{registers}
 use Rattle.text.specs.Text.{bytes}
-
--- A number below 100 in decimal, with no leading zero; byte 48 is the digit 0.
-unfoldable pub decimal : ℕ → List ℕ
-decimal k = cond (ltb k 10) ((48 + k) ∷ []) ((48 + k / 10) ∷ (48 + k % 10) ∷ [])
+use Rattle.text.specs.Decimal.{shortDecimal}
 
 -- A register by its name.
 abbrev pub registerName : ℕ → List ℕ
@@ -39,7 +36,7 @@ unfoldable pub jumpTexts : List (List ℕ)
 jumpTexts = [] ∷ bytes "if n then goto " ∷ bytes "if z then goto " ∷ bytes "goto " ∷ []
 
 unfoldable pub jump : Fields → List ℕ
-jump m = getD jumpTexts (m .sq) [] ++ decimal (m .end)
+jump m = getD jumpTexts (m .sq) [] ++ shortDecimal (m .end)
 
 -- For each part a space, the part, a semicolon.
 abbrev pub part : Bool → List ℕ → List ℕ
@@ -57,7 +54,7 @@ jumpPart m = part (not (eqb (m .sq) 0)) (jump m)
 
 -- Number, colon, then the parts in the order operation, rd or wr, jump; byte 10 last.
 unfoldable pub line : ℕ → Fields → List ℕ
-line number m = decimal number ++ bytes ":" ++ operationPart m ++ transferPart m ++ jumpPart m ++ 10 ∷ []
+line number m = shortDecimal number ++ bytes ":" ++ operationPart m ++ transferPart m ++ jumpPart m ++ 10 ∷ []
 
 -- Words as lines, numbered from `number` on.
 unfoldable pub lines : ℕ → List ℕ → List ℕ

@@ -17,6 +17,10 @@ digits (suc most) n = cond (ltb n 10) [] (digits most (n / 10)) ++ (48 + n % 10)
 abbrev pub decimal : ℕ → List ℕ
 decimal n = digits 20 n
 
+-- A number below 100 in decimal: one digit or two.
+unfoldable pub shortDecimal : ℕ → List ℕ
+shortDecimal n = cond (ltb n 10) ((48 + n) ∷ []) ((48 + n / 10) ∷ (48 + n % 10) ∷ [])
+
 -- The number that one or two digits with no leading zero spell; 100 where the bytes are something else.
 unfoldable pub fromDecimal : List ℕ → ℕ
 fromDecimal [] = 100

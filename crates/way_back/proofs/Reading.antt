@@ -12,11 +12,12 @@ use lib.Seq.{sets, sets-eq}
 use Rattle.microword.specs.Microword.{fieldsOf, badWord, normalForm}
 use Rattle.microword.proofs.Laws.{fields-within}
 use Rattle.microtext.specs.Listing as listing
-use Rattle.microtext.specs.Listing.{decimal, upTo, shown}
+use Rattle.microtext.specs.Listing.{upTo, shown}
 use Rattle.word.proofs.Tests.{both}
 use Rattle.microassembler.specs.Assembled.{laid, onward, filled, zeroWords, assembled}
 use Rattle.microassembler.proofs.Filled.{by-lines}
 use Rattle.text.specs.Text.{prefixed, lines}
+use Rattle.text.specs.Decimal.{shortDecimal}
 use Rattle.way_back.proofs.Printed.{unbroken, number-back}
 use Rattle.way_back.proofs.Pieces.{spaced}
 use Rattle.way_back.proofs.Relisted.{All, texts, texts-each, texts-few, body, body-spaced, line-back}
@@ -45,7 +46,7 @@ body-unbroken : (k w : ℕ) → k < 64 → unbroken (body k (fieldsOf w)) ≡ tr
 unfolding unbroken
 body-unbroken k w l =
     rw (body-spaced k (fieldsOf w))
-    (unbroken-append (decimal k) (58 ∷ spaced (texts (fieldsOf w))) (number-back k l .one-line)
+    (unbroken-append (shortDecimal k) (58 ∷ spaced (texts (fieldsOf w))) (number-back k l .one-line)
     (spaced-unbroken (texts (fieldsOf w)) (texts-each (λ x. unbroken x ≡ true) (fieldsOf w) (fields-within w) (λ x p b. b .one-line))))
 
 -- They are not long.
@@ -56,7 +57,7 @@ spaced-short (p ∷ ps) e = let h = spaced-short ps (e .1) in rw (length-append 
 
 body-short : (k w : ℕ) → k < 64 → length (body k (fieldsOf w)) ≤ 60
 body-short k w l =
-    rw (body-spaced k (fieldsOf w), length-append (decimal k) (58 ∷ spaced (texts (fieldsOf w))))
+    rw (body-spaced k (fieldsOf w), length-append (shortDecimal k) (58 ∷ spaced (texts (fieldsOf w))))
     (omega (
       arith,
       number-back k l .short,

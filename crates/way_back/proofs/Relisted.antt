@@ -14,13 +14,12 @@ use Rattle.token.specs.Tokens.{Token, tokens}
 use Rattle.part.specs.Grammar.{part}
 use Rattle.microtext.specs.Line.{someForeign, add, nothing, given, clash, settled, meaning, divided, parts, behindNumber, numbered, line, hasJump, hasTransfer}
 use Rattle.microtext.specs.Listing as listing
-use Rattle.microtext.specs.Listing.{decimal}
 use Rattle.part.specs.declared.Part.{Part}
 use Rattle.part.specs.declared.Part.the-variants.{Operation, Transfer, Jump}
 use Rattle.microtext.specs.declared.Meaning.the-variants.{Word}
 use Rattle.word.proofs.Tests.{neither}
 use Rattle.text.specs.Text.{bytes, same}
-use Rattle.text.specs.Decimal.{fromDecimal}
+use Rattle.text.specs.Decimal.{fromDecimal, shortDecimal}
 use Rattle.way_back.proofs.Printed.{Back, second, target, operation-back, rd-back, wr-back, jump-back, number-back, undivided}
 use Rattle.way_back.proofs.Pieces.{spaced, tokens-split, colon-first, AllUndivided, parts-back}
 
@@ -234,7 +233,7 @@ texts-each P m h f =
 
 -- The body of a line: all but its byte 10.
 abbrev pub body : ℕ → Fields → List ℕ
-body k m = decimal k ++ bytes ":" ++ listing.operationPart m ++ listing.transferPart m ++ listing.jumpPart m
+body k m = shortDecimal k ++ bytes ":" ++ listing.operationPart m ++ listing.transferPart m ++ listing.jumpPart m
 
 spaced-append : (ps qs : List (List ℕ)) → spaced (ps ++ qs) ≡ spaced ps ++ spaced qs
 unfolding spaced
@@ -246,19 +245,19 @@ unfolding spaced
 spaced-when true x = refl
 spaced-when false x = refl
 
-pub body-spaced : (k : ℕ) (m : Fields) → body k m ≡ decimal k ++ 58 ∷ spaced (texts m)
+pub body-spaced : (k : ℕ) (m : Fields) → body k m ≡ shortDecimal k ++ 58 ∷ spaced (texts m)
 body-spaced k m =
     simp append-assoc
-    (ap (λ (x : List ℕ). decimal k ++ 58 ∷ x)
+    (ap (λ (x : List ℕ). shortDecimal k ++ 58 ∷ x)
     (sym
     (spaced-append (when (operates m) (listing.operation m)) (when (hasTransfer m) (transferText m) ++ when (hasJump m) (listing.jump m))
     ∙ ap₂ (λ (x y : List ℕ). x ++ y) (spaced-when (operates m) (listing.operation m))
     (spaced-append (when (hasTransfer m) (transferText m)) (when (hasJump m) (listing.jump m))
     ∙ ap₂ (λ (x y : List ℕ). x ++ y) (spaced-when (hasTransfer m) (transferText m)) (spaced-when (hasJump m) (listing.jump m))))))
 
-body-tokens : (k : ℕ) → k < 64 → (m : Fields) → tokens (body k m) ≡ decimal k ∷ (58 ∷ []) ∷ tokens (spaced (texts m))
+body-tokens : (k : ℕ) → k < 64 → (m : Fields) → tokens (body k m) ≡ shortDecimal k ∷ (58 ∷ []) ∷ tokens (spaced (texts m))
 body-tokens k l m =
-    ap tokens (body-spaced k m) ∙ tokens-split (decimal k) [] 58 (spaced (texts m)) refl
+    ap tokens (body-spaced k m) ∙ tokens-split (shortDecimal k) [] 58 (spaced (texts m)) refl
     ∙ ap₂ (λ (x y : List Token). x ++ y) (number-back k l .token) (colon-first (texts m))
 
 -- The parts of a line, read back.
@@ -287,7 +286,7 @@ texts-mean m h apart =
 body-back : (k : ℕ) → k < 64 → (m : Fields) → Within m → (eqb (m .rd) 1 && eqb (m .wr) 1) ≡ false → line k (body k m) ≡ Word (wordOf (normalFields m))
 unfolding line numbered behindNumber same
 body-back k l m h apart =
-    rw (lt-ltb k 64 l) (ap (numbered k) (body-tokens k l m) ∙ rw (eq-eqb (fromDecimal (decimal k)) k (number-back k l .value)) (texts-mean m h apart))
+    rw (lt-ltb k 64 l) (ap (numbered k) (body-tokens k l m) ∙ rw (eq-eqb (fromDecimal (shortDecimal k)) k (number-back k l .value)) (texts-mean m h apart))
 
 pub line-back : (k w : ℕ) → k < 64 → badWord w ≡ false → line k (body k (fieldsOf w)) ≡ Word (normalForm w)
 unfolding normalForm badWord

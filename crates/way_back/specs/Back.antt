@@ -1,4 +1,4 @@
--- Assembling a listing gives the normal forms (01, Micro text and images), over what the lister and the assembler promise.
+-- Assembling a listing gives the normal forms (01, Micro text and images), over what the lister and the microassembler promise.
 use Prim.Native.Nat.{ℕ}
 use mathlib.Core.Path.{_≡_}
 use mathlib.Core.List.{List, map}

@@ -6,9 +6,10 @@ use borrow.Author.Tests.{lt-ltb, le-ltb}
 use borrow.Author.Needs.{needs}
 use mathlib.Core.List.{[], _∷_}
 use lib.ListN.{set, length-append, length-set}
-use Rattle.microtext.specs.Listing.{decimal, line}
+use Rattle.microtext.specs.Listing.{line}
 use Rattle.text.specs.Laid.{Wrote}
 use Rattle.text.proofs.Laid.{_then_, same-text}
+use Rattle.text.specs.Decimal.{shortDecimal}
 use Rattle.microline.specs.Line.{laidLine}
 use Rattle.microline.proofs.Laws.{small, line-pieces, line-room, laid-line}
 use Rattle.microline.proofs.put_line.Statement.{statement}
@@ -37,7 +38,7 @@ put-parts-requires c κs = let f = c .before .before .before .before .before in
     let number = f .before .before .before .before .args .number in
     let fields : Small (f .fields-of .result) = rw (f .fields-of .ensures) (small _) in
     let n = c .before .before .before .put-number in
-    (fields, omega (arith, n .ensures .behind, n .kept .0, f .before .before .if1 .left, length-append (decimal number) (58 ∷ []), line-room number (f .fields-of .result) (fields .sq)))
+    (fields, omega (arith, n .ensures .behind, n .kept .0, f .before .before .if1 .left, length-append (shortDecimal number) (58 ∷ []), line-room number (f .fields-of .result) (fields .sq)))
 
 put-target-requires : tie.Need-put-target-requires
 put-target-requires c κs =
@@ -47,7 +48,7 @@ put-target-requires c κs =
     let fields : Small (f .fields-of .result) = rw (f .fields-of .ensures) (small _) in
     let n = c .before .before .before .before .before .before .before .put-number in
     let p = c .before .before .before .put-parts in
-    (fields, omega (arith, n .ensures .behind, n .kept .0, p .ensures .behind, p .kept .0, f .before .before .if1 .left, length-append (decimal number) (58 ∷ []), line-room number (f .fields-of .result) (fields .sq)))
+    (fields, omega (arith, n .ensures .behind, n .kept .0, p .ensures .behind, p .kept .0, f .before .before .if1 .left, length-append (shortDecimal number) (58 ∷ []), line-room number (f .fields-of .result) (fields .sq)))
 
 slice-write-room : tie.Need-slice-write-room
 slice-write-room c =
@@ -58,7 +59,7 @@ slice-write-room c =
     let n = earlier .before .before .put-number in
     let p = c .before .before .before .before .before .before .put-parts in
     let t = c .before .before .put-target in
-    omega (arith, n .ensures .behind, n .kept .0, p .ensures .behind, p .kept .0, t .ensures .behind, t .kept .0, f .before .before .if1 .left, length-append (decimal number) (58 ∷ []), line-room number (f .fields-of .result) (fields .sq))
+    omega (arith, n .ensures .behind, n .kept .0, p .ensures .behind, p .kept .0, t .ensures .behind, t .kept .0, f .before .before .if1 .left, length-append (shortDecimal number) (58 ∷ []), line-room number (f .fields-of .result) (fields .sq))
 
 add-result : tie.Need-add-result
 add-result c =

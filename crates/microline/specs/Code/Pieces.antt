@@ -5,11 +5,12 @@ use mathlib.Core.Bool.{cond, _||_}
 use mathlib.Core.List.{List, [], _∷_, _++_, map}
 use lib.Dec.{eqb}
 use lib.ListN.{length, getD}
-use Rattle.microtext.specs.Listing.{decimal, destination, operationPart, transferPart, registerName}
+use Rattle.microtext.specs.Listing.{destination, operationPart, transferPart, registerName}
 use Rattle.part.specs.Grammar.{registers}
 use Rattle.microword.specs.Microword.{binary}
 use Rattle.microword.specs.declared.Fields.{Fields}
 use Rattle.text.specs.Text.{bytes}
+use Rattle.text.specs.Decimal.{shortDecimal}
 
 -- Fields of the widths that a control word has.
 pub record Small (m : Fields) : Type 0 where
@@ -95,4 +96,4 @@ unfoldable pub parts : Fields → List ℕ
 parts m = operationPart m ++ transferPart m ++ getD jumpWords (m .sq) []
 
 unfoldable pub target : Fields → List ℕ
-target m = cond (eqb (m .sq) 0) [] (decimal (m .end) ++ bytes ";")
+target m = cond (eqb (m .sq) 0) [] (shortDecimal (m .end) ++ bytes ";")
