@@ -2,9 +2,10 @@
 -- tokens taken in turn from the start, then finished, come to what Grammar's `part` says of them (proofs/Laws: `in-turn`).
 use Prim.Native.Nat.{ℕ, suc}
 use mathlib.Core.Bool.{Bool, true, false, cond, _&&_}
-use mathlib.Core.List.{List, [], _∷_}
+use mathlib.Core.List.{List, [], _∷_, map}
 use lib.Dec.{ltb, eqb}
-use Rattle.token.specs.Code.Numbers.{spelt, decimalOf}
+use Rattle.token.specs.Code.Numbers.{numeral, spelt, decimalOf}
+use Rattle.part.specs.Grammar.{registers}
 use Rattle.part.specs.declared.Part.{Part}
 use Rattle.part.specs.declared.Part.the-variants.{Operation, Transfer, Jump, Foreign}
 use Rattle.part.specs.declared.Stage.{Stage}
@@ -16,7 +17,7 @@ position n [] = 0
 position n (x ∷ xs) = cond (eqb n x) 0 (suc (position n xs))
 
 unfoldable pub registerOf : ℕ → ℕ
-registerOf t = position t (spelt "cp" ∷ spelt "ac" ∷ spelt "pp" ∷ spelt "ri" ∷ spelt "rt" ∷ spelt "masc" ∷ spelt "rem" ∷ spelt "rdm" ∷ [])
+registerOf t = position t (map (numeral 1) registers)
 
 unfoldable pub destinationOf : ℕ → ℕ
 destinationOf t = cond (ltb (registerOf t) 8) (registerOf t) (cond (eqb t (spelt "alu")) 8 9)
