@@ -1,11 +1,11 @@
 -- A whole line: its tokens taken one by one come to what the line means.
-use Prim.Native.Nat.{ℕ, _+_, _≤_, _<_}
+use Prim.Native.Nat.{ℕ, _≤_, _<_}
 use mathlib.Core.Path.{_≡_, refl, sym, ap, _∙_}
 use mathlib.Core.Bool.{Bool, true, false, cond, _||_, or-false, true≢false}
 use mathlib.Core.List.{List, [], _∷_, map}
 use native.Mathlib.Omega.{arith}
 use borrow.Author.Tests.{lt-ltb, le-ltb, eq-eqb, ne-eqb}
-use lib.Dec.{ltb, eqb}
+use lib.Dec.{eqb}
 use lib.ListN.{length}
 use Rattle.token.specs.Tokens.{Token, tokens}
 use Rattle.token.specs.Next.{packed, scanned}
@@ -15,9 +15,9 @@ use Rattle.token.proofs.Packed.{known}
 use Rattle.token.proofs.Next.{next}
 use Rattle.part.specs.declared.Part.{Part}
 use Rattle.part.proofs.Course.{rest, Fine, step, finish}
-use Rattle.text.specs.Text.{bytes, _is_, lineAt, endAt, nextLine}
+use Rattle.text.specs.Text.{bytes, _is_, lineAt, endAt, nextLine, pastEnd}
 use Rattle.token.proofs.Decimals.{decimal-of}
-use Rattle.token.specs.Code.Numbers.{spelt, codesAt, decimalOf}
+use Rattle.token.specs.Code.Numbers.{codesAt, decimalOf, codeOf}
 use Rattle.part.specs.Code.Stage.{advance, finished}
 use Rattle.part.specs.declared.Stage.{Stage}
 use Rattle.part.specs.declared.Stage.the-variants.{Start, Wrong}
@@ -173,7 +173,7 @@ all-taken (t ∷ ts) a g underway q f s = go (t is ";") refl (all-taken ts (a .1
 -- A line on its tokens' numbers.
 codedParts : List ℕ → Meaning
 codedParts [] = Refused Ungrammatical
-codedParts (c ∷ ts) = cond (eqb c (spelt ":")) (concluded (allTaken noParts ts)) (Refused Ungrammatical)
+codedParts (c ∷ ts) = cond (eqb c (codeOf ":")) (concluded (allTaken noParts ts)) (Refused Ungrammatical)
 
 coded : ℕ → List ℕ → Meaning
 coded k [] = Refused WrongNumber
@@ -219,17 +219,17 @@ module _ (text : List ℕ) (all-bytes : Bytes text) (at k : ℕ) (h : k < 64) (f
     unfolding coded
     read-on = read ∙ rw (ne-eqb (first .token) 1 no-number, eq-eqb (decimalOf (first .token)) k e, next text (first .behind) colon c .codes)
 
-    pub no-colon : (colon .token ≡ spelt ":" → ⊥) → Faulty Ungrammatical ≡ readingAt text at k
+    pub no-colon : (colon .token ≡ codeOf ":" → ⊥) → Faulty Ungrammatical ≡ readingAt text at k
     unfolding codedParts
     no-colon n = sym (read-on ∙ go (eqb (colon .token) 1))
       where
         go : (b : Bool) → reading (codedParts (cond b [] (colon .token ∷ codesAt text (colon .behind)))) (nextLine text at) ≡ Faulty Ungrammatical
         go true = refl
-        go false = rw (ne-eqb (colon .token) (spelt ":") n)
+        go false = rw (ne-eqb (colon .token) (codeOf ":") n)
 
-    pub with-parts : colon .token ≡ spelt ":" → reading (concluded (allTaken noParts (codesAt text (colon .behind)))) (nextLine text (colon .behind)) ≡ readingAt text at k
+    pub with-parts : colon .token ≡ codeOf ":" → reading (concluded (allTaken noParts (codesAt text (colon .behind)))) (nextLine text (colon .behind)) ≡ readingAt text at k
     unfolding codedParts
     with-parts z =
         let q : endAt text (colon .behind) ≡ endAt text at = next text (first .behind) colon c .line-end ∙ next text at first f .line-end in
-        ap (λ (n : ℕ). reading (concluded (allTaken noParts (codesAt text (colon .behind)))) (cond (ltb n (length text)) (n + 1) n)) q
+        ap (λ (n : ℕ). reading (concluded (allTaken noParts (codesAt text (colon .behind)))) (pastEnd n (length text))) q
         ∙ sym (read-on ∙ rw z)

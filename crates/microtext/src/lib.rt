@@ -1,9 +1,7 @@
 // Micro text: what one line of it means. A line is scanned once, token by token, and each token moves a part along.
 ghost use mathlib.Core.Path.{_≡_};
-ghost use Prim.Native.Nat.{_+_};
 ghost use mathlib.Core.Bool.{cond};
 ghost use lib.Dec.{ltb};
-ghost use lib.ListN.{length};
 ghost use Rattle.text.specs.Text.{nextLine};
 ghost use Rattle.token.specs.Code.Numbers.{codesAt};
 ghost use Rattle.microtext.specs.Line.{number, foreign as foreignPart, add as addTo, clash as clashOf, settled as settledBy};
@@ -239,16 +237,6 @@ fn as_reading(meaning: Meaning, next: usize) -> Reading
     }
 }
 
-// Behind the byte that ends a line at `end` of `length`.
-fn past(end: usize, length: usize) -> usize
-    ensures { λ r. ⌜ r ≡ cond (ltb end length) (end + 1) end ⌝ }
-{
-    if end < length {
-        return end + 1;
-    }
-    end
-}
-
 // The parts of the line that goes on at `at`.
 fn read_parts(text: &[u8], at: usize) -> Reading
     ensures { λ r. ⌜ r ≡ readingOf (concludedBy (allTaken noParts (codesAt (now (text .entry)) at))) (nextLine (now (text .entry)) at) ⌝ }
@@ -278,7 +266,7 @@ fn read_parts(text: &[u8], at: usize) -> Reading
         parts = taken(parts, next.token);
         next = token::next_token(text, next.behind);
     }
-    as_reading(concluded(parts), past(next.behind, text.len()))
+    as_reading(concluded(parts), text::past_end(next.behind, text.len()))
 }
 
 // The line of `text` that begins at `at`, as the line numbered `line`.

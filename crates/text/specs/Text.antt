@@ -45,9 +45,12 @@ lineAt text at = before 10 (drop at text)
 abbrev pub endAt : List ℕ → ℕ → ℕ
 endAt text at = at + length (lineAt text at)
 
--- Behind the byte 10 that ends the line, or at the text's end.
+-- Behind the byte 10 that ends a line at `end`, or at the text's end, which is at `last`.
+abbrev pub pastEnd : ℕ → ℕ → ℕ
+pastEnd end last = cond (ltb end last) (end + 1) end
+
 abbrev pub nextLine : List ℕ → ℕ → ℕ
-nextLine text at = cond (ltb (endAt text at) (length text)) (endAt text at + 1) (endAt text at)
+nextLine text at = pastEnd (endAt text at) (length text)
 
 -- The bytes of a text from `start` up to `behind`.
 abbrev pub span : List ℕ → ℕ → ℕ → List ℕ

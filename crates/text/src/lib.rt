@@ -1,6 +1,17 @@
-// Text as bytes: the definitions of lines and of decimals that whoever reads text cites, and text laid into a lent room.
+// Text as bytes: behind the end of a line, and text laid into a lent room. Lines and decimals are defined here for whoever reads text.
 ghost use mathlib.Core.Path.{_≡_};
+ghost use Rattle.text.specs.Text.{pastEnd};
 ghost use Rattle.text.specs.Laid.{laid};
+
+// Behind the byte that ends a line at `end`, in a text that ends at `last`.
+pub fn past_end(end: usize, last: usize) -> usize
+    ensures { λ r. ⌜ r ≡ pastEnd end last ⌝ }
+{
+    if end < last {
+        return end + 1;
+    }
+    end
+}
 
 // Lays `text` from `at` on and answers where it ends. Where it would pass the room's end nothing is laid.
 pub fn put(room: &mut [u8], at: usize, text: &[u8]) -> usize

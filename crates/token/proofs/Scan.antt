@@ -14,7 +14,7 @@ use Rattle.token.specs.Tokens.{Token, every, oneToken, under, ended, goi
 use Rattle.token.specs.Next.{packed, first, spaces, scanned}
 use Rattle.token.proofs.Packed.{short, known}
 use Rattle.token.proofs.Split.{tokens-first}
-use Rattle.token.specs.Code.Numbers.{numeral, spelt, BeginsSign}
+use Rattle.token.specs.Code.Numbers.{numeral, BeginsSign, codeOf}
 
 -- What is scanned where the line's tokens are known.
 found : (text : List ℕ) (at n k start behind : ℕ) (t : Token) → n ≡ packed t → first (tokens (lineAt text at)) ≡ t → spaces (lineAt text at) ≡ k
@@ -87,7 +87,7 @@ module _ (text : List ℕ) (at x : ℕ) (t : List ℕ) (i : ℕ) (a : Along text
 -- Whether two bytes are `:=`, `<<` or `>>`, by their number.
 abbrev pub pairs : ℕ → ℕ → Bool
 pairs c d =
-    eqb (65536 + c * 256 + d) (spelt ":=") || eqb (65536 + c * 256 + d) (spelt "<<") || eqb (65536 + c * 256 + d) (spelt ">>")
+    eqb (65536 + c * 256 + d) (codeOf ":=") || eqb (65536 + c * 256 + d) (codeOf "<<") || eqb (65536 + c * 256 + d) (codeOf ">>")
 
 -- A byte that begins no run: a token by itself, or with the next byte.
 module _ (text : List ℕ) (at c : ℕ) (h : at < length text) (q : c ≡ getD text at 0) (l : c < 256) (b : BeginsSign c) where

@@ -5,7 +5,7 @@ use mathlib.Core.Bool.{true, false, cond}
 use mathlib.Core.List.{List, [], _∷_}
 use lib.Dec.{eqb}
 use Rattle.part.specs.declared.Part.{Part}
-use Rattle.token.specs.Code.Numbers.{spelt}
+use Rattle.token.specs.Code.Numbers.{codeOf}
 use Rattle.part.specs.Code.Stage.{advance, finished}
 use Rattle.part.specs.declared.Stage.the-variants.{Start, Wrong}
 use Rattle.microtext.specs.Line.{foreign, add, settled, nothing}
@@ -22,7 +22,7 @@ closed g p = record { given = add g p; underway = foreign p; stage = cond (forei
 -- One token more of the parts of a line.
 unfoldable pub taken : Parts → ℕ → Parts
 taken ps t =
-    cond (eqb t (spelt ";")) (closed (ps .given) (finished (ps .stage))) (record { given = ps .given; underway = true; stage = advance (ps .stage) t })
+    cond (eqb t (codeOf ";")) (closed (ps .given) (finished (ps .stage))) (record { given = ps .given; underway = true; stage = advance (ps .stage) t })
 
 unfoldable pub allTaken : Parts → List ℕ → Parts
 allTaken ps [] = ps

@@ -16,8 +16,8 @@ abbrev pub numeral : ℕ → List ℕ → ℕ
 numeral n [] = n
 numeral n (c ∷ t) = numeral (n * 256 + c) t
 
-abbrev pub spelt : String → ℕ
-spelt s = numeral 1 (bytes s)
+abbrev pub codeOf : String → ℕ
+codeOf s = numeral 1 (bytes s)
 
 -- The tokens of the line that goes on at `at`, as numbers.
 abbrev pub codesAt : List ℕ → ℕ → List ℕ
@@ -26,8 +26,8 @@ codesAt text at = map packed (tokens (lineAt text at))
 -- The number of one or two digits with no leading zero, or 100, from a token's number.
 unfoldable pub decimalOf : ℕ → ℕ
 decimalOf t =
-    cond (leb (spelt "0") t && leb t (spelt "9")) (t - spelt "0")
-    (cond (leb (spelt "1") (t / 256) && leb (t / 256) (spelt "9") && digit (t % 256)) ((t / 256 - spelt "0") * 10 + (t % 256 - code "0"))
+    cond (leb (codeOf "0") t && leb t (codeOf "9")) (t - codeOf "0")
+    (cond (leb (codeOf "1") (t / 256) && leb (t / 256) (codeOf "9") && digit (t % 256)) ((t / 256 - codeOf "0") * 10 + (t % 256 - code "0"))
     100)
 
 -- A byte that begins a token, and no run.
