@@ -12,9 +12,10 @@ use lib.ListN.{length, getD, take, drop, length-append, drop-of-length-le}
 use lib.Seq.{drop-cons, take-append-seam}
 use Rattle.io.specs.Counts.{Counts}
 use Rattle.io.specs.Digits.{digits as lastDigits, Fewest}
-use Rattle.room.specs.Laid.{Wrote}
-use Rattle.room.proofs.Laws.{all-of}
-use Rattle.console.specs.Text.{digits, decimal, signed, lines, Shown, shown}
+use Rattle.text.specs.Laid.{Wrote}
+use Rattle.text.proofs.Laid.{all-of}
+use Rattle.text.specs.Decimal.{digits, decimal}
+use Rattle.console.specs.Text.{signed, lines, Shown, shown}
 
 -- The fewest digits that hold a number are those of its decimal.
 spelt : (k most n : ℕ) → suc k ≤ most → n < 10 ^ suc k → (0 < k → 10 ^ k ≤ n) → lastDigits 10 (suc k) n ≡ digits most n

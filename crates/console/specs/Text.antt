@@ -1,21 +1,13 @@
 -- What the two programs print (01, Micro text and images, the last two paragraphs): numbers, signed words, answer lines, the report of a run.
-use Prim.Native.Nat.{ℕ, zero, suc, _+_, _-_, _/_, _%_}
+use Prim.Native.Nat.{ℕ, _-_}
 use Prim.Native.String.{String}
 use mathlib.Core.Bool.{cond}
 use mathlib.Core.List.{List, [], _∷_, _++_}
 use lib.Dec.{ltb}
 use lib.ListN.{length, take, drop}
-use Rattle.token.specs.Text.{bytes}
+use Rattle.text.specs.Text.{bytes}
+use Rattle.text.specs.Decimal.{decimal}
 use Rattle.console.specs.declared.Run.{Run}
-
--- The last digits of a number, at most `most`, with no leading zero; byte 48 is the digit 0.
-unfoldable pub digits : ℕ → ℕ → List ℕ
-digits zero n = []
-digits (suc most) n = cond (ltb n 10) [] (digits most (n / 10)) ++ (48 + n % 10) ∷ []
-
--- A number in decimal: 20 digits are enough for one of 64 bits.
-abbrev pub decimal : ℕ → List ℕ
-decimal n = digits 20 n
 
 -- A word signed from -32768 to 32767.
 unfoldable pub signed : ℕ → List ℕ

@@ -3,8 +3,9 @@ ghost use mathlib.Core.Path.{_≡_};
 ghost use mathlib.Core.List.{List, [], _∷_, _++_};
 ghost use Prim.Native.Nat.{ℕ, _+_, _*_, _≤_};
 ghost use lib.ListN.{length, take};
-ghost use Rattle.room.specs.Laid.{Wrote};
-ghost use Rattle.console.specs.Text.{decimal, signed, counts, registers, line, lines, refusal as Text·refusal, badWord, report as Text·report, shown};
+ghost use Rattle.text.specs.Laid.{Wrote};
+ghost use Rattle.text.specs.Decimal.{decimal};
+ghost use Rattle.console.specs.Text.{signed, counts, registers, line, lines, refusal as Text·refusal, badWord, report as Text·report, shown};
 ghost use Rattle.console.specs.Input.{Held};
 use word::Address;
 use word::Line;
@@ -74,7 +75,7 @@ fn put_decimal(room: &mut [u8], at: usize, n: u64) -> usize
 {
     let mut digits = [0u8; 20];
     let k = io::decimal(n, &mut digits);
-    room::put(room, at, &digits[..k])
+    text::put(room, at, &digits[..k])
 }
 
 // A label and a number.
@@ -83,7 +84,7 @@ fn put_labelled(room: &mut [u8], at: usize, label: &[u8], n: u64) -> usize
     ensures { λ r. ⌜ Wrote (now (room .entry)) at (now (label .entry) ++ decimal n) (now (room .exit)) r ⌝ }
     ensures { λ r. ⌜ r ≤ at + length (now (label .entry)) + 20 ⌝ }
 {
-    let number = room::put(room, at, label);
+    let number = text::put(room, at, label);
     put_decimal(room, number, n)
 }
 
@@ -118,7 +119,7 @@ fn put_registers(room: &mut [u8], at: usize, run: Run) -> usize
 {
     let pp = put_labelled(room, at, b" cp ", run.cp.0 as u64);
     let ac = put_labelled(room, pp, b" pp ", run.pp.0 as u64);
-    let value = room::put(room, ac, b" ac ");
+    let value = text::put(room, ac, b" ac ");
     put_signed(room, value, run.ac)
 }
 

@@ -9,7 +9,7 @@ use Rattle.cycle.specs.Cycle.{State}
 use Rattle.engine.specs.Run.{Said, Ended, saying, cycle, turn, ended, cycles, refusal, begun, runs, endedBy, Press, press, pressedBy}
 use Rattle.engine.specs.declared.Pressed.{Pressed}
 use Rattle.engine.specs.declared.Ran.{Ran}
-use Rattle.assembler.specs.Assembled.{Outcome}
+use Rattle.microassembler.specs.Assembled.{Outcome}
 use Rattle.image.specs.Image.{Reading}
 use Rattle.facetgrove.specs.Rooms.{Filled}
 

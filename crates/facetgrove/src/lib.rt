@@ -1,6 +1,6 @@
 // The library for C and Rust: each function of the plant's software over numbers and slices.
 ghost use mathlib.Core.Path.{_≡_};
-ghost use Rattle.assembler.specs.Assembled.{assembled};
+ghost use Rattle.microassembler.specs.Assembled.{assembled};
 ghost use Rattle.image.specs.Image.{reading};
 ghost use Rattle.printed.specs.Printed.{printed};
 ghost use Rattle.facetgrove.specs.Runs.{engineCalled, interpreterCalled};
@@ -67,8 +67,8 @@ pub extern "C" fn facetgrove_interpreter_run(
 pub extern "C" fn facetgrove_assemble(text: &[u8], store: &mut [u32]) -> u32
     ensures { λ r. ⌜ assembled (now (text .entry)) (now (store .entry)) ≡ record { answer = r; store = now (store .exit) } ⌝ }
 {
-    let answer = assembler::assemble(text, store);
-    text_answers::of_assembler(answer)
+    let answer = microassembler::assemble(text, store);
+    answer.number()
 }
 
 // A control store's listing, at the start of the room.
@@ -78,8 +78,8 @@ pub extern "C" fn facetgrove_list(store: &[u32], room: &mut [u8], told: &mut [us
 {
     let listed = lister::list(store, room);
     let answer = listed.answer;
-    *told = [listed.length, text_answers::line_of_lister(answer)];
-    text_answers::of_lister(answer)
+    *told = [listed.length, answer.line()];
+    answer.number()
 }
 
 // An image to a memory.

@@ -5,30 +5,34 @@ use mathlib.Core.Bool.{Bool, true, false, cond}
 use mathlib.Core.List.{List, [], _∷_, _++_}
 use native.Mathlib.Numerals.{add-one}
 use native.Mathlib.Omega.{arith}
-use borrow.Author.Tests.{eq-eqb, ne-eqb, lt-ltb, le-ltb}
+use borrow.Author.Tests.{eq-eqb, ne-eqb, lt-ltb, le-ltb, eqb-true, not-false}
 use lib.Dec.{eqb}
 use lib.ListN.{length, getD, take, drop, length-append, length-take, drop-of-length-le}
-use lib.Seq.{drop-cons, take-suc, length-take-le}
-use Rattle.microword.specs.Microword.{fieldsOf, normalForm, firstBad}
+use lib.Seq.{drop-cons, take-suc, length-take-le, getD-take}
+use Rattle.microword.specs.Microword.{fieldsOf, normalForm}
+use Rattle.store.specs.Store.{wrongStore, words, controlWord, firstBad}
 use Rattle.microtext.specs.Listing.{line, lines, upTo, shown, listing}
 use Rattle.lister.specs.Answers.{Outcome, number, named, refused, done, listed, seen}
 use Rattle.lister.specs.declared.Answer.{Answer}
-use Rattle.lister.specs.declared.Answer.the-variants.{Done, WrongStore, SmallRoom, BadWord, PastRoom}
+use Rattle.lister.specs.declared.Answer.the-variants.{Done, WrongSize, SmallRoom, BadWord, PastRoom}
 use Rattle.lister.specs.declared.Listed.{Listed}
 
--- The lines from a word on.
-pub lines-next : (words : List ℕ) (i : ℕ) → i < length words
-    → lines i (drop i words) ≡ line i (fieldsOf (getD words i 0)) ++ lines (i + 1) (drop (i + 1) words)
-unfolding lines
-lines-next words i h = rw (add-one, drop-cons words i 0 h)
+-- The lines from one of a store's first words on.
+module _ (store : List ℕ) (count i w : ℕ) (within : count ≤ length (words store)) (h : i < count) (e : w ≡ controlWord store i) where
+  pub lines-next : lines i (drop i (take count (words store))) ≡ line i (fieldsOf w) ++ lines (i + 1) (drop (i + 1) (take count (words store)))
+  unfolding lines
+  lines-next =
+      let inside : i < length (take count (words store)) = omega (arith, length-take-le count (words store) within) in
+      rw (add-one, drop-cons (take count (words store)) i 0 inside, getD-take count (words store) i 0 h, e)
 
-pub lines-length : (words : List ℕ) (i : ℕ) → i < length words
-    → length (lines i (drop i words)) ≡ length (line i (fieldsOf (getD words i 0))) + length (lines (i + 1) (drop (i + 1) words))
-lines-length words i h = ap length (lines-next words i h) ∙ length-append (line i (fieldsOf (getD words i 0))) (lines (i + 1) (drop (i + 1) words))
+  pub lines-length : length (lines i (drop i (take count (words store)))) ≡ length (line i (fieldsOf w)) + length (lines (i + 1) (drop (i + 1) (take count (words store))))
+  lines-length = ap length lines-next ∙ length-append (line i (fieldsOf w)) (lines (i + 1) (drop (i + 1) (take count (words store))))
 
-pub lines-end : (words : List ℕ) (i : ℕ) → length words ≤ i → lines i (drop i words) ≡ []
+pub lines-end : (store : List ℕ) (count i : ℕ) → count ≤ i → lines i (drop i (take count (words store))) ≡ []
 unfolding lines
-lines-end words i h = rw (drop-of-length-le words h)
+lines-end store count i h =
+    let past : length (take count (words store)) ≤ i = omega (arith, length-take count (words store)) in
+    rw (drop-of-length-le (take count (words store)) past)
 
 -- A last word whose normal form is 0 is not shown; up to one whose normal form is not 0 all are.
 shown-without : (words : List ℕ) (w : ℕ) → normalForm w ≡ 0 → shown (words ++ w ∷ []) ≡ shown words
@@ -78,24 +82,35 @@ shown-first (w ∷ words) = up-to-first w words (shown words) (shown-first words
 pub shown-le : (words : List ℕ) → length (shown words) ≤ length words
 shown-le words = omega (arith, ap length (shown-first words), length-take (length (shown words)) words)
 
--- The answers that come after the three tests.
-module _ (store room : List ℕ) (whole : length store ≡ 64) (wide : 2816 ≤ length room) (good : length store ≤ firstBad store) where
-  pub past-room : length room < length (listing store) → listed store room ≡ refused 17 0 room
-  unfolding listed
-  past-room h = rw (eq-eqb _ _ whole, le-ltb _ _ wide, le-ltb _ _ good, lt-ltb _ _ h)
+-- A store of the right size has 64 words.
+pub sized : (store : List ℕ) → wrongStore store ≡ false → length (words store) ≡ 64
+sized store e = eqb-true (length (words store)) 64 (not-false _ e)
 
-  pub all-done : length (listing store) ≤ length room → listed store room ≡ done (listing store) room
+-- The words of the first `count` lines are those that are shown.
+pub first-shown : (store : List ℕ) (count : ℕ) → count ≡ length (shown (words store)) → take count (words store) ≡ shown (words store)
+first-shown store count e = ap (λ (n : ℕ). take n (words store)) e ∙ shown-first (words store)
+
+-- The answers that come after the three tests.
+module _ (store room : List ℕ) (right : wrongStore store ≡ false) (wide : 2816 ≤ length room) (good : 64 ≤ firstBad store) where
+  none-bad : length (words store) ≤ firstBad store
+  none-bad = omega (arith, sized store right)
+
+  pub past-room : length room < length (listing (words store)) → listed store room ≡ refused 17 0 room
   unfolding listed
-  all-done h = rw (eq-eqb _ _ whole, le-ltb _ _ wide, le-ltb _ _ good, le-ltb _ _ h)
+  past-room h = rw (right, le-ltb _ _ wide, le-ltb _ _ none-bad, lt-ltb _ _ h)
+
+  pub all-done : length (listing (words store)) ≤ length room → listed store room ≡ done (listing (words store)) room
+  unfolding listed
+  all-done h = rw (right, le-ltb _ _ wide, le-ltb _ _ none-bad, le-ltb _ _ h)
 
 -- An answer is known by its number and the line that it names.
 abbrev answerOf : ℕ → ℕ → Answer
 answerOf answer line =
-    cond (eqb answer 0) Done (cond (eqb answer 1) WrongStore (cond (eqb answer 16) SmallRoom (cond (eqb answer 4) (BadWord (record { 0 = line })) PastRoom)))
+    cond (eqb answer 0) Done (cond (eqb answer 1) WrongSize (cond (eqb answer 16) SmallRoom (cond (eqb answer 4) (BadWord (record { 0 = line })) PastRoom)))
 
 answer-back : (answer : Answer) → answerOf (number answer) (named answer) ≡ answer
 answer-back Done = refl
-answer-back WrongStore = refl
+answer-back WrongSize = refl
 answer-back SmallRoom = refl
 answer-back (BadWord line) = refl
 answer-back PastRoom = refl

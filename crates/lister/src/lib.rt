@@ -1,17 +1,18 @@
 // The lister: a control store into its micro text.
 ghost use mathlib.Core.Path.{_≡_};
 ghost use Prim.Native.Nat.{_≤_};
-ghost use lib.ListN.{length};
+ghost use lib.ListN.{length, take};
 ghost use Rattle.microtext.specs.Listing.{lines, shown};
-ghost use Rattle.room.specs.Laid.{Wrote};
-ghost use Rattle.lister.specs.Answers.{listed, seen};
+ghost use Rattle.text.specs.Laid.{Wrote};
+ghost use Rattle.store.specs.Store.{words};
+ghost use Rattle.lister.specs.Answers.{number, named, listed, seen};
 use microword::normal;
 use word::Line;
 
 // What a call answers; a bad word's line is named.
 pub enum Answer {
     Done,
-    WrongStore,
+    WrongSize,
     SmallRoom,
     BadWord(Line),
     PastRoom,
@@ -23,32 +24,62 @@ pub struct Listed {
     pub length: usize,
 }
 
-// How long the lines of these words are together: known before the room is touched, so that a refusal leaves it as found.
-fn lines_length(words: &[u32]) -> usize
-    requires { ⌜ length (now words) ≤ 64 ⌝ }
-    ensures { λ r. ⌜ r ≡ length (lines 0 (now (words .entry))) ⌝ }
+impl Answer {
+    // Document 01's number of it.
+    pub fn number(self) -> u32
+        ensures { λ r. ⌜ r ≡ number self ⌝ }
+    {
+        match self {
+            Answer::Done => 0,
+            Answer::WrongSize => 1,
+            Answer::SmallRoom => 16,
+            Answer::BadWord(_) => 4,
+            Answer::PastRoom => 17,
+        }
+    }
+
+    // The line that answer 4 names, else 0.
+    pub fn line(self) -> usize
+        ensures { λ r. ⌜ r ≡ named self ⌝ }
+    {
+        match self {
+            Answer::Done => 0,
+            Answer::WrongSize => 0,
+            Answer::SmallRoom => 0,
+            Answer::BadWord(line) => line.0 as usize,
+            Answer::PastRoom => 0,
+        }
+    }
+}
+
+// How long the first `count` lines are together: known before the room is touched, so that a refusal leaves it as found.
+fn lines_length(store: &[u32], count: usize) -> usize
+    requires { ⌜ (count ≤ 64) × (count ≤ length (words (now store))) ⌝ }
+    ensures { λ r. ⌜ r ≡ length (lines 0 (take count (words (now (store .entry))))) ⌝ }
 {
     let mut buffer = [0u8; 44];
     let mut sum: usize = 0;
     let mut i: usize = 0;
-    while i < words.len() {
-        sum += microline::put_line(&mut buffer, i as u32, words[i]);
+    while i < count {
+        let word = store::word_at(store, Line(i as u8));
+        sum += microline::put_line(&mut buffer, i as u32, word);
         i += 1;
     }
     sum
 }
 
-// The lines of these words, each made in a buffer and copied to the room.
-fn put_lines(room: &mut [u8], words: &[u32]) -> usize
-    requires { ⌜ (length (now words) ≤ 64) × (length (lines 0 (now words)) ≤ length (now room)) ⌝ }
-    ensures { λ r. ⌜ Wrote (now (room .entry)) 0 (lines 0 (now (words .entry))) (now (room .exit)) r ⌝ }
+// The first `count` lines, each made in a buffer and copied to the room.
+fn put_lines(room: &mut [u8], store: &[u32], count: usize) -> usize
+    requires { ⌜ (count ≤ 64) × (count ≤ length (words (now store))) × (length (lines 0 (take count (words (now store)))) ≤ length (now room)) ⌝ }
+    ensures { λ r. ⌜ Wrote (now (room .entry)) 0 (lines 0 (take count (words (now (store .entry))))) (now (room .exit)) r ⌝ }
 {
     let mut buffer = [0u8; 44];
     let mut at: usize = 0;
     let mut i: usize = 0;
-    while i < words.len() {
-        let n = microline::put_line(&mut buffer, i as u32, words[i]);
-        at = room::put(room, at, &buffer[..n]);
+    while i < count {
+        let word = store::word_at(store, Line(i as u8));
+        let n = microline::put_line(&mut buffer, i as u32, word);
+        at = text::put(room, at, &buffer[..n]);
         i += 1;
     }
     at
@@ -56,11 +87,12 @@ fn put_lines(room: &mut [u8], words: &[u32]) -> usize
 
 // How many words there are up to the last whose normal form is not 0.
 fn shown_words(store: &[u32]) -> usize
-    ensures { λ r. ⌜ r ≡ length (shown (now (store .entry))) ⌝ }
+    requires { ⌜ length (words (now store)) ≡ 64 ⌝ }
+    ensures { λ r. ⌜ r ≡ length (shown (words (now (store .entry)))) ⌝ }
 {
-    let mut count = store.len();
+    let mut count: usize = 64;
     while 0 < count {
-        let word = store[count - 1];
+        let word = store::word_at(store, Line((count - 1) as u8));
         let form = normal(word);
         if form != 0 {
             return count;
@@ -81,22 +113,21 @@ fn refused(answer: Answer) -> Listed
 pub fn list(store: &[u32], room: &mut [u8]) -> Listed
     ensures { λ r. ⌜ listed (now (store .entry)) (now (room .entry)) ≡ seen r (now (room .exit)) ⌝ }
 {
-    if store.len() != 64 {
-        return refused(Answer::WrongStore);
+    if store::is_wrong(store) {
+        return refused(Answer::WrongSize);
     }
     if room.len() < 2816 {
         return refused(Answer::SmallRoom);
     }
-    let bad = microword::first_bad(store);
-    if bad < store.len() {
+    let bad = store::first_bad(store);
+    if bad < 64 {
         return refused(Answer::BadWord(Line(bad as u8)));
     }
     let count = shown_words(store);
-    let words = &store[..count];
-    if room.len() < lines_length(words) {
+    if room.len() < lines_length(store, count) {
         return refused(Answer::PastRoom);
     }
-    let length = put_lines(room, words);
+    let length = put_lines(room, store, count);
     Listed {
         answer: Answer::Done,
         length,

@@ -12,13 +12,14 @@ use lib.ListN.{length, getD, take, drop, length-append, drop-of-length-le}
 use lib.Seq.{drop-cons, take-append-seam, drop-append-seam, getD-take, getD-drop}
 use Rattle.microword.specs.Microword.{fieldsOf, normalFields, idle, binary}
 use Rattle.microword.specs.declared.Fields.{Fields}
-use Rattle.microtext.specs.Listing.{decimal, register, formulas, formula, destination, operation, operationPart, jumps, jump, jumpPart, part, line, transferPart}
-use Rattle.token.specs.Text.{bytes}
+use Rattle.microtext.specs.Listing.{formulas, formula, destination, operation, operationPart, jump, jumpPart, part, line, transferPart, registerName, jumpTexts}
 use Rattle.part.specs.Grammar.{registers}
-use Rattle.room.specs.Laid.{Laid, Wrote}
-use Rattle.room.proofs.Laws.{wrote, laid-stored}
-use Rattle.microline.specs.Pieces.{Small, stores, destinations, signsBefore, signsBehind, ends, seconds, transfers, jumpWords, table, texts, starts, Chosen, spelt, Known, Spells, to, first, second, parts, target}
+use Rattle.text.specs.Text.{bytes}
+use Rattle.text.specs.Laid.{Laid, Wrote}
+use Rattle.text.proofs.Laid.{wrote, laid-stored}
+use Rattle.text.specs.Decimal.{shortDecimal}
 use Rattle.microline.specs.Line.{laidLine}
+use Rattle.microline.specs.Code.Pieces.{Small, stores, destinations, signsBefore, signsBehind, ends, seconds, transfers, jumpWords, table, texts, starts, Chosen, spelt, Known, Spells, to, first, second, parts, target}
 
 -- The text k starts and ends inside, and is this one.
 pub record Entry (all begins : List ℕ) (k : ℕ) (text : List ℕ) : Type 0 where
@@ -103,12 +104,12 @@ of-map f [] k h = absurd (omega arith)
 of-map f (name ∷ names) zero h = refl
 of-map f (name ∷ names) (suc k) h = of-map f names k (omega arith)
 
-pub chosen-destination : (s : ℕ) → s < 8 → Chosen s (stores (register s))
+pub chosen-destination : (s : ℕ) → s < 8 → Chosen s (stores (registerName s))
 unfolding table destinations
 chosen-destination s h =
     record { known = omega arith; same = rw zero-add at (in-table 0 (map stores registers) s refl h) ∙ of-map stores registers s h }
 
-pub chosen-second : (b : ℕ) → b < 8 → Chosen (33 + b) (ends (register b))
+pub chosen-second : (b : ℕ) → b < 8 → Chosen (33 + b) (ends (registerName b))
 unfolding table destinations signsBefore signsBehind seconds
 chosen-second b h =
     record { known = omega arith; same = in-table 33 (map ends registers) b refl h ∙ of-map ends registers b h }
@@ -117,7 +118,7 @@ before-at : (f : ℕ) → f < 8 → getD table (9 + f) [] ≡ getD signsBefore f
 unfolding table destinations signsBefore
 before-at f h = in-table 9 signsBefore f refl h
 
-pub chosen-register : (r : ℕ) → r < 8 → Chosen (17 + r) (register r)
+pub chosen-register : (r : ℕ) → r < 8 → Chosen (17 + r) (registerName r)
 unfolding table destinations signsBefore
 chosen-register r h = record { known = omega arith; same = in-table 17 registers r refl h }
 
@@ -148,7 +149,7 @@ spells-all m store one last move s busy t o l v =
       same =
           rw (t .same, before-at (m .f) (s .f), o .same, behind-at (m .f) (s .f), l .same, v .same, jump-at (m .sq) (s .sq), busy)
           (joined (bytes " ") (bytes ":=") (bytes ";") (destination m) (formula m) (getD signsBefore (m .f) []) (first m) (getD signsBehind (m .f) [])
-          (second m) (transferPart m) (getD jumpWords (m .sq) []) (formula-pieces (m .f) (register (m .a)) (register (m .b)) (s .f)));
+          (second m) (transferPart m) (getD jumpWords (m .sq) []) (formula-pieces (m .f) (registerName (m .a)) (registerName (m .b)) (s .f)));
     }
 
 pub spells-idle : (m : Fields) (move : ℕ) → Small m → idle m ≡ true → Chosen move (transferPart m)
@@ -162,10 +163,10 @@ spells-idle m move s rests v =
 
 -- A line is its number with a colon, the pieces of its parts, the target, and byte 10.
 jump-pieces : (m : Fields) → m .sq < 4 → jumpPart m ≡ getD jumpWords (m .sq) [] ++ target m
-unfolding jump jumps jumpWords target
+unfolding jump jumpTexts jumpWords target
 jump-pieces m h = go (m .sq) h
   where
-    go : (sq : ℕ) → sq < 4 → part (not (eqb sq 0)) (getD jumps sq [] ++ decimal (m .end)) ≡ getD jumpWords sq [] ++ cond (eqb sq 0) [] (decimal (m .end) ++ bytes ";")
+    go : (sq : ℕ) → sq < 4 → part (not (eqb sq 0)) (getD jumpTexts sq [] ++ shortDecimal (m .end)) ≡ getD jumpWords sq [] ++ cond (eqb sq 0) [] (shortDecimal (m .end) ++ bytes ";")
     go zero p = refl
     go (suc zero) p = refl
     go (suc (suc zero)) p = refl
@@ -176,11 +177,11 @@ regrouped : (number operation move words aim : List ℕ)
     → number ++ bytes ":" ++ (operation ++ move ++ words) ++ aim ++ 10 ∷ [] ≡ number ++ bytes ":" ++ operation ++ move ++ (words ++ aim) ++ 10 ∷ []
 regrouped number operation move words aim = simp append-assoc
 
-pub line-pieces : (number : ℕ) (m : Fields) → m .sq < 4 → decimal number ++ bytes ":" ++ parts m ++ target m ++ 10 ∷ [] ≡ line number m
+pub line-pieces : (number : ℕ) (m : Fields) → m .sq < 4 → shortDecimal number ++ bytes ":" ++ parts m ++ target m ++ 10 ∷ [] ≡ line number m
 unfolding line parts
 line-pieces number m h =
-    regrouped (decimal number) (operationPart m) (transferPart m) (getD jumpWords (m .sq) []) (target m)
-    ∙ ap (λ (j : List ℕ). decimal number ++ bytes ":" ++ operationPart m ++ transferPart m ++ j ++ 10 ∷ []) (sym (jump-pieces m h))
+    regrouped (shortDecimal number) (operationPart m) (transferPart m) (getD jumpWords (m .sq) []) (target m)
+    ∙ ap (λ (j : List ℕ). shortDecimal number ++ bytes ":" ++ operationPart m ++ transferPart m ++ j ++ 10 ∷ []) (sym (jump-pieces m h))
 
 -- The pieces from one on.
 pub spelt-next : (which : List ℕ) (i : ℕ) → i < length which
@@ -214,18 +215,18 @@ short-at most (text ∷ texts) zero s = s .0
 short-at most (text ∷ texts) (suc k) s = short-at most texts k (s .1)
 
 -- Lengths: of a register, of what F computes, of a number, of a part.
-register-le : (r : ℕ) → length (register r) ≤ 4
+register-le : (r : ℕ) → length (registerName r) ≤ 4
 unfolding Short
 register-le r = short-at 4 registers r (omega arith)
 
 formula-le : (m : Fields) → length (formula m) ≤ 9
 unfolding formulas Short
 formula-le m =
-    short-at 9 (formulas (register (m .a)) (register (m .b))) (m .f)
+    short-at 9 (formulas (registerName (m .a)) (registerName (m .b))) (m .f)
     (simp length-append (omega (arith, register-le (m .a), register-le (m .b))))
 
-decimal-le : (k : ℕ) → length (decimal k) ≤ 2
-unfolding decimal
+decimal-le : (k : ℕ) → length (shortDecimal k) ≤ 2
+unfolding shortDecimal
 decimal-le k = go (ltb k 10)
   where
     go : (b : Bool) → length (cond b ((48 + k) ∷ []) ((48 + k / 10) ∷ (48 + k % 10) ∷ [])) ≤ 2
@@ -243,11 +244,11 @@ operation-le : (m : Fields) → length (operation m) ≤ 15
 unfolding operation
 operation-le m =
     simp length-append
-    (omega (arith, cond-le (eqb (m .hs) 0) (bytes "alu") (register (m .s)) 4 (omega arith) (register-le (m .s)), formula-le m))
+    (omega (arith, cond-le (eqb (m .hs) 0) (bytes "alu") (registerName (m .s)) 4 (omega arith) (register-le (m .s)), formula-le m))
 
 jump-le : (m : Fields) → length (jump m) ≤ 17
-unfolding jump jumps Short
-jump-le m = simp length-append (omega (arith, short-at 15 jumps (m .sq) (omega arith), decimal-le (m .end)))
+unfolding jump jumpTexts Short
+jump-le m = simp length-append (omega (arith, short-at 15 jumpTexts (m .sq) (omega arith), decimal-le (m .end)))
 
 -- A line has at most 44 bytes.
 pub line-le : (number : ℕ) (m : Fields) → length (line number m) ≤ 44
@@ -267,12 +268,12 @@ line-le number m =
     ))
 
 -- Fields without use do not show: the line of a word's fields is that of its normal form's.
-destination-same : (unused : Bool) (s : ℕ) → cond unused (bytes "alu") (register (cond unused 0 s)) ≡ cond unused (bytes "alu") (register s)
+destination-same : (unused : Bool) (s : ℕ) → cond unused (bytes "alu") (registerName (cond unused 0 s)) ≡ cond unused (bytes "alu") (registerName s)
 destination-same true s = refl
 destination-same false s = refl
 
 formula-same : (used : Bool) (f : ℕ) (a : List ℕ) (b : ℕ) → f < 8 → (eqb f 3 || eqb f 4 || eqb f 5) ≡ used
-    → getD (formulas a (register (cond (not used) 0 b))) f [] ≡ getD (formulas a (register b)) f []
+    → getD (formulas a (registerName (cond (not used) 0 b))) f [] ≡ getD (formulas a (registerName b)) f []
 unfolding formulas
 formula-same true f a b h e = refl
 formula-same false zero a b h e = refl
@@ -286,14 +287,14 @@ formula-same false (suc (suc (suc (suc (suc (suc (suc zero))))))) a b h e = refl
 formula-same false (suc (suc (suc (suc (suc (suc (suc (suc f)))))))) a b h e = absurd (omega arith)
 
 operation-same : (unused used : Bool) (hs f a b s : ℕ) → f < 8 → (eqb f 3 || eqb f 4 || eqb f 5) ≡ used
-    → part (not unused) (cond (eqb hs 0) (bytes "alu") (register (cond (eqb hs 0) 0 s)) ++ bytes ":="
-    ++ getD (formulas (register (cond unused 0 a)) (register (cond (unused || not used) 0 b))) (cond unused 0 f) [])
-    ≡ part (not unused) (cond (eqb hs 0) (bytes "alu") (register s) ++ bytes ":=" ++ getD (formulas (register a) (register b)) f [])
+    → part (not unused) (cond (eqb hs 0) (bytes "alu") (registerName (cond (eqb hs 0) 0 s)) ++ bytes ":="
+    ++ getD (formulas (registerName (cond unused 0 a)) (registerName (cond (unused || not used) 0 b))) (cond unused 0 f) [])
+    ≡ part (not unused) (cond (eqb hs 0) (bytes "alu") (registerName s) ++ bytes ":=" ++ getD (formulas (registerName a) (registerName b)) f [])
 operation-same true used hs f a b s h e = refl
 operation-same false used hs f a b s h e =
-    ap₂ (λ (d : List ℕ) (t : List ℕ). part true (d ++ bytes ":=" ++ t)) (destination-same (eqb hs 0) s) (formula-same used f (register a) b h e)
+    ap₂ (λ (d : List ℕ) (t : List ℕ). part true (d ++ bytes ":=" ++ t)) (destination-same (eqb hs 0) s) (formula-same used f (registerName a) b h e)
 
-jump-same : (unused : Bool) (words : List ℕ) (end : ℕ) → part (not unused) (words ++ decimal (cond unused 0 end)) ≡ part (not unused) (words ++ decimal end)
+jump-same : (unused : Bool) (words : List ℕ) (end : ℕ) → part (not unused) (words ++ shortDecimal (cond unused 0 end)) ≡ part (not unused) (words ++ shortDecimal end)
 jump-same true words end = refl
 jump-same false words end = refl
 
@@ -301,11 +302,11 @@ pub line-normal : (number : ℕ) (m : Fields) → m .f < 8 → line number (norm
 unfolding line operation jump normalFields idle binary
 line-normal number m h =
     let o = operation-same (idle m) (binary m) (m .hs) (m .f) (m .a) (m .b) (m .s) h refl in
-    let j = jump-same (eqb (m .sq) 0) (getD jumps (m .sq) []) (m .end) in
-    ap₂ (λ (x : List ℕ) (y : List ℕ). decimal number ++ bytes ":" ++ x ++ transferPart m ++ y ++ 10 ∷ []) o j
+    let j = jump-same (eqb (m .sq) 0) (getD jumpTexts (m .sq) []) (m .end) in
+    ap₂ (λ (x : List ℕ) (y : List ℕ). shortDecimal number ++ bytes ":" ++ x ++ transferPart m ++ y ++ 10 ∷ []) o j
 
 -- The room that a line's pieces need.
-pub line-room : (number : ℕ) (m : Fields) → m .sq < 4 → length (decimal number) + 1 + length (parts m) + length (target m) + 1 ≤ 44
+pub line-room : (number : ℕ) (m : Fields) → m .sq < 4 → length (shortDecimal number) + 1 + length (parts m) + length (target m) + 1 ≤ 44
 line-room number m h = omega (arith, simp length-append at (ap length (line-pieces number m h)), line-le number m)
 
 -- A line that was put is laid; a smaller room, or one for a number above 63, is as found.
@@ -322,7 +323,7 @@ unfolding laidLine
 wrote-line number word wide below e =
     wrote (omega (arith, line-le number (fieldsOf word))) (rw (le-ltb _ _ wide, le-ltb _ _ below) at e)
 
--- No second answer: the promise fixes the room and the place.
+-- No second answer: the promise fixes the room and where the line ends.
 pub only : (room : List ℕ) (number word : ℕ) (left left′ : List ℕ) (r r′ : ℕ) → laidLine room number word ≡ record { room = left; next = r }
     → laidLine room number word ≡ record { room = left′; next = r′ } → (r ≡ r′) × (left ≡ left′)
 only room number word left left′ r r′ p q =

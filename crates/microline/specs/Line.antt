@@ -6,7 +6,7 @@ use lib.Dec.{ltb}
 use lib.ListN.{length}
 use Rattle.microtext.specs.Listing.{line}
 use Rattle.microword.specs.Microword.{fieldsOf}
-use Rattle.room.specs.Laid.{Laid, laid}
+use Rattle.text.specs.Laid.{Laid, laid}
 
 -- A line has at most 44 bytes, and lines are numbered from 0 to 63: a smaller room, or one for another number, is as found.
 unfoldable pub laidLine : List ℕ → ℕ → ℕ → Laid

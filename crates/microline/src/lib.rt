@@ -3,10 +3,11 @@ ghost use mathlib.Core.Path.{_≡_};
 ghost use mathlib.Core.List.{[], _∷_, _++_};
 ghost use Prim.Native.Nat.{_+_, _<_, _≤_};
 ghost use lib.ListN.{length};
-ghost use Rattle.microtext.specs.Listing.{decimal, transferPart};
-ghost use Rattle.room.specs.Laid.{Wrote};
-ghost use Rattle.microline.specs.Pieces.{Small, table, Chosen, spelt, Known, Spells, to, first, second, target, texts as Pieces·texts, starts as Pieces·starts, parts as Pieces·parts};
+ghost use Rattle.microtext.specs.Listing.{transferPart};
+ghost use Rattle.text.specs.Laid.{Wrote};
+ghost use Rattle.text.specs.Decimal.{shortDecimal};
 ghost use Rattle.microline.specs.Line.{laidLine};
+ghost use Rattle.microline.specs.Code.Pieces.{Small, table, Chosen, spelt, Known, Spells, to, first, second, target, texts as Pieces·texts, starts as Pieces·starts, parts as Pieces·parts};
 use microword::Fields;
 use microword::fields_of;
 
@@ -88,7 +89,7 @@ fn put_pieces(room: &mut [u8], from: usize, texts: &[u8], starts: &[u8], which: 
         let k = which[i];
         let start = starts[k] as usize;
         let end = starts[k + 1] as usize;
-        at = room::put(room, at, &texts[start..end]);
+        at = text::put(room, at, &texts[start..end]);
         i += 1;
     }
     at
@@ -185,8 +186,8 @@ fn put_parts(room: &mut [u8], at: usize, m: Fields) -> usize
 
 // A number below 100 in decimal, and the mark behind it.
 fn put_number(room: &mut [u8], at: usize, k: u32, mark: u8) -> usize
-    requires { ⌜ (k < 100) × (at + length (decimal k) + 1 ≤ length (now room)) ⌝ }
-    ensures { λ e. ⌜ Wrote (now (room .entry)) at (decimal k ++ mark ∷ []) (now (room .exit)) e ⌝ }
+    requires { ⌜ (k < 100) × (at + length (shortDecimal k) + 1 ≤ length (now room)) ⌝ }
+    ensures { λ e. ⌜ Wrote (now (room .entry)) at (shortDecimal k ++ mark ∷ []) (now (room .exit)) e ⌝ }
 {
     if k < 10 {
         room[at] = (48 + k) as u8;

@@ -7,12 +7,13 @@ use native.Mathlib.Omega.{arith}
 use borrow.Author.Tests.{eq-eqb, ne-eqb, eqb-false}
 use lib.Dec.{eqb}
 use lib.ListN.{length}
-use Rattle.token.specs.Text.{endAt}
-use Rattle.token.specs.Next.{codesAt, scanned}
+use Rattle.token.specs.Next.{scanned}
 use Rattle.token.specs.declared.Scanned.{Scanned}
 use Rattle.token.proofs.Next.{NextToken, next as next-token}
-use Rattle.microtext.specs.Progress.{taken, allTaken, noParts}
+use Rattle.text.specs.Text.{endAt}
+use Rattle.token.specs.Code.Numbers.{codesAt}
 use Rattle.microtext.specs.declared.Parts.{Parts}
+use Rattle.microtext.specs.Code.Progress.{taken, allTaken, noParts}
 
 -- The tokens to come, where the next one has been scanned.
 abbrev pub toCome : List ℕ → Scanned → List ℕ

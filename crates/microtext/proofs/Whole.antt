@@ -1,44 +1,45 @@
 -- A whole line: its tokens taken one by one come to what the line means.
-use Prim.Native.Nat.{ℕ, _+_, _≤_, _<_}
+use Prim.Native.Nat.{ℕ, _≤_, _<_}
 use mathlib.Core.Path.{_≡_, refl, sym, ap, _∙_}
 use mathlib.Core.Bool.{Bool, true, false, cond, _||_, or-false, true≢false}
 use mathlib.Core.List.{List, [], _∷_, map}
 use native.Mathlib.Omega.{arith}
 use borrow.Author.Tests.{lt-ltb, le-ltb, eq-eqb, ne-eqb}
-use lib.Dec.{ltb, eqb}
+use lib.Dec.{eqb}
 use lib.ListN.{length}
-use Rattle.token.specs.Text.{bytes, _is_, lineAt, endAt}
 use Rattle.token.specs.Tokens.{Token, tokens}
-use Rattle.token.specs.Next.{packed, spelt, codesAt, scanned}
+use Rattle.token.specs.Next.{packed, scanned}
 use Rattle.token.specs.declared.Scanned.{Scanned}
 use Rattle.token.proofs.Bytes.{Bytes, AllBytes, line-bytes}
 use Rattle.token.proofs.Packed.{known}
 use Rattle.token.proofs.Next.{next}
-use Rattle.part.specs.Place.{numberOf, advance, finished}
 use Rattle.part.specs.declared.Part.{Part}
-use Rattle.part.specs.declared.Place.{Place}
-use Rattle.part.specs.declared.Place.the-variants.{Start, Wrong}
-use Rattle.part.proofs.Words.{number-of}
 use Rattle.part.proofs.Course.{rest, Fine, step, finish}
+use Rattle.text.specs.Text.{bytes, _is_, lineAt, endAt, nextLine, pastEnd}
+use Rattle.token.proofs.Decimals.{decimal-of}
+use Rattle.token.specs.Code.Numbers.{codesAt, decimalOf, codeOf}
+use Rattle.part.specs.Code.Stage.{advance, finished}
+use Rattle.part.specs.declared.Stage.{Stage}
+use Rattle.part.specs.declared.Stage.the-variants.{Start, Wrong}
 use Rattle.microtext.specs.Line.{cut, divided, lastPart, parts, foreign, someForeign, add, nothing, given, settled, meaning, behindNumber, numbered, line}
-use Rattle.microtext.specs.Progress.{closed, taken, allTaken, concluded, noParts}
-use Rattle.microtext.specs.Reading.{reading, nextLine, readingAt}
+use Rattle.microtext.specs.Reading.{reading, readingAt}
 use Rattle.microtext.specs.declared.Given.{Given}
 use Rattle.microtext.specs.declared.Parts.{Parts}
 use Rattle.microtext.specs.declared.Fault.the-variants.{ExtraLine, WrongNumber, Ungrammatical}
 use Rattle.microtext.specs.declared.Meaning.{Meaning}
 use Rattle.microtext.specs.declared.Meaning.the-variants.{Refused}
 use Rattle.microtext.specs.declared.Reading.the-variants.{Faulty}
+use Rattle.microtext.specs.Code.Progress.{closed, taken, allTaken, concluded, noParts}
 
--- The parts of a line whose first piece has been read up to a place.
-lastFrom : Bool → Place → List Token → List Part
+-- The parts of a line whose first piece has been read up to a stage.
+lastFrom : Bool → Stage → List Token → List Part
 lastFrom false q p = lastPart p
 lastFrom true q p = rest q p ∷ []
 
-partsFrom : Bool → Place → List (List Token) → List Part
-partsFrom begun q [] = []
-partsFrom begun q (p ∷ []) = lastFrom begun q p
-partsFrom begun q (p ∷ r ∷ ps) = rest q p ∷ parts (r ∷ ps)
+partsFrom : Bool → Stage → List (List Token) → List Part
+partsFrom underway q [] = []
+partsFrom underway q (p ∷ []) = lastFrom underway q p
+partsFrom underway q (p ∷ r ∷ ps) = rest q p ∷ parts (r ∷ ps)
 
 pub divided-some : (ts : List Token) → (p : List Token) × (ps : List (List Token)) × (divided ts ≡ p ∷ ps)
 unfolding divided cut
@@ -52,7 +53,7 @@ divided-some (t ∷ ts) = go (divided-some ts)
         one true = ([], p ∷ ps, refl)
         one false = (t ∷ p, ps, refl)
 
--- From a start the parts are the line's; from a wrong place the line is outside the grammar.
+-- From a start the parts are the line's; from a wrong stage the line is outside the grammar.
 from-start : (ps : List (List Token)) → partsFrom false Start ps ≡ parts ps
 unfolding partsFrom lastFrom parts
 from-start [] = refl
@@ -91,47 +92,47 @@ divided-semicolon t ts e = go (divided-some ts)
     go (p, ps, d) = rw (d, e)
 
 -- The first piece ends with a semicolon.
-first-ends : (begun : Bool) (q : Place) (ts : List Token) → partsFrom begun q ([] ∷ divided ts) ≡ rest q [] ∷ parts (divided ts)
+first-ends : (underway : Bool) (q : Stage) (ts : List Token) → partsFrom underway q ([] ∷ divided ts) ≡ rest q [] ∷ parts (divided ts)
 unfolding partsFrom
-first-ends begun q ts = go (divided-some ts)
+first-ends underway q ts = go (divided-some ts)
   where
-    go : (p : List Token) × (ps : List (List Token)) × (divided ts ≡ p ∷ ps) → partsFrom begun q ([] ∷ divided ts) ≡ rest q [] ∷ parts (divided ts)
+    go : (p : List Token) × (ps : List (List Token)) × (divided ts ≡ p ∷ ps) → partsFrom underway q ([] ∷ divided ts) ≡ rest q [] ∷ parts (divided ts)
     go (p, ps, d) = rw d
 
 -- The first piece goes on.
-first-goes-on : (begun : Bool) (q r : Place) (t : Token) (ts : List Token) → (begun ≡ false → q ≡ Start) → t is ";" ≡ false
-    → ((xs : List Token) → rest q (t ∷ xs) ≡ rest r xs) → partsFrom begun q (divided (t ∷ ts)) ≡ partsFrom true r (divided ts)
+first-goes-on : (underway : Bool) (q r : Stage) (t : Token) (ts : List Token) → (underway ≡ false → q ≡ Start) → t is ";" ≡ false
+    → ((xs : List Token) → rest q (t ∷ xs) ≡ rest r xs) → partsFrom underway q (divided (t ∷ ts)) ≡ partsFrom true r (divided ts)
 unfolding divided cut partsFrom lastFrom lastPart
-first-goes-on begun q r t ts s e f = go (divided-some ts)
+first-goes-on underway q r t ts s e f = go (divided-some ts)
   where
     one : (b : Bool) → (b ≡ false → q ≡ Start) → (p : List Token) → lastFrom b q (t ∷ p) ≡ rest r p ∷ []
     one true s p = ap (λ (x : Part). x ∷ []) (f p)
-    one false s p = ap (λ (x : Place). rest x (t ∷ p) ∷ []) (sym (s refl)) ∙ ap (λ (x : Part). x ∷ []) (f p)
+    one false s p = ap (λ (x : Stage). rest x (t ∷ p) ∷ []) (sym (s refl)) ∙ ap (λ (x : Part). x ∷ []) (f p)
 
-    two : (p : List Token) (ps : List (List Token)) → partsFrom begun q ((t ∷ p) ∷ ps) ≡ partsFrom true r (p ∷ ps)
-    two p [] = one begun s p
+    two : (p : List Token) (ps : List (List Token)) → partsFrom underway q ((t ∷ p) ∷ ps) ≡ partsFrom true r (p ∷ ps)
+    two p [] = one underway s p
     two p (x ∷ ps) = ap (λ (y : Part). y ∷ parts (x ∷ ps)) (f p)
 
-    go : (p : List Token) × (ps : List (List Token)) × (divided ts ≡ p ∷ ps) → partsFrom begun q (cut t (divided ts)) ≡ partsFrom true r (divided ts)
+    go : (p : List Token) × (ps : List (List Token)) × (divided ts ≡ p ∷ ps) → partsFrom underway q (cut t (divided ts)) ≡ partsFrom true r (divided ts)
     go (p, ps, d) = rw (d, e) (two p ps)
 
 -- At the end of the tokens.
-none-taken : (g : Given) (begun : Bool) (q : Place) → Fine q → concluded (record { given = g; begun = begun; place = q }) ≡ meaning g (partsFrom begun q ([] ∷ []))
+none-taken : (g : Given) (underway : Bool) (q : Stage) → Fine q → concluded (record { given = g; underway = underway; stage = q }) ≡ meaning g (partsFrom underway q ([] ∷ []))
 unfolding concluded meaning someForeign given partsFrom lastFrom lastPart
 none-taken g false q f = refl
 none-taken g true q f = rw (finish q f, or-false (foreign (finished q)))
 
 -- A semicolon: the part ends, and the next one starts unless it was foreign.
-semicolon-taken : (g : Given) (begun : Bool) (q : Place) (t : Token) → t is ";" ≡ true → Bytes t
-    → taken (record { given = g; begun = begun; place = q }) (packed t)
-    ≡ record { given = add g (finished q); begun = foreign (finished q); place = cond (foreign (finished q)) Wrong Start }
+semicolon-taken : (g : Given) (underway : Bool) (q : Stage) (t : Token) → t is ";" ≡ true → Bytes t
+    → taken (record { given = g; underway = underway; stage = q }) (packed t)
+    ≡ record { given = add g (finished q); underway = foreign (finished q); stage = cond (foreign (finished q)) Wrong Start }
 unfolding taken closed
-semicolon-taken g begun q t e b = rw (known t (bytes ";") b refl, e)
+semicolon-taken g underway q t e b = rw (known t (bytes ";") b refl, e)
 
-token-taken : (g : Given) (begun : Bool) (q : Place) (t : Token) → t is ";" ≡ false → Bytes t
-    → taken (record { given = g; begun = begun; place = q }) (packed t) ≡ record { given = g; begun = true; place = advance q (packed t) }
+token-taken : (g : Given) (underway : Bool) (q : Stage) (t : Token) → t is ";" ≡ false → Bytes t
+    → taken (record { given = g; underway = underway; stage = q }) (packed t) ≡ record { given = g; underway = true; stage = advance q (packed t) }
 unfolding taken
-token-taken g begun q t e b = rw (known t (bytes ";") b refl, e)
+token-taken g underway q t e b = rw (known t (bytes ";") b refl, e)
 
 next-fine : (b : Bool) → Fine (cond b Wrong Start)
 next-fine true = tt
@@ -142,41 +143,41 @@ next-start true e = absurd (true≢false e)
 next-start false e = refl
 
 -- Tokens taken one by one.
-all-taken : (ts : List Token) → AllBytes ts → (g : Given) (begun : Bool) (q : Place) → Fine q → (begun ≡ false → q ≡ Start)
-    → concluded (allTaken (record { given = g; begun = begun; place = q }) (map packed ts)) ≡ meaning g (partsFrom begun q (divided ts))
+all-taken : (ts : List Token) → AllBytes ts → (g : Given) (underway : Bool) (q : Stage) → Fine q → (underway ≡ false → q ≡ Start)
+    → concluded (allTaken (record { given = g; underway = underway; stage = q }) (map packed ts)) ≡ meaning g (partsFrom underway q (divided ts))
 unfolding allTaken divided
-all-taken [] a g begun q f s = none-taken g begun q f
-all-taken (t ∷ ts) a g begun q f s = go (t is ";") refl (all-taken ts (a .1))
+all-taken [] a g underway q f s = none-taken g underway q f
+all-taken (t ∷ ts) a g underway q f s = go (t is ";") refl (all-taken ts (a .1))
   where
     p : Part
     p = finished q
 
     Law : Type 0
-    Law = (g : Given) (begun : Bool) (q : Place) → Fine q → (begun ≡ false → q ≡ Start)
-        → concluded (allTaken (record { given = g; begun = begun; place = q }) (map packed ts)) ≡ meaning g (partsFrom begun q (divided ts))
+    Law = (g : Given) (underway : Bool) (q : Stage) → Fine q → (underway ≡ false → q ≡ Start)
+        → concluded (allTaken (record { given = g; underway = underway; stage = q }) (map packed ts)) ≡ meaning g (partsFrom underway q (divided ts))
 
     go : (b : Bool) → t is ";" ≡ b → Law
-        → concluded (allTaken (taken (record { given = g; begun = begun; place = q }) (packed t)) (map packed ts)) ≡ meaning g (partsFrom begun q (divided (t ∷ ts)))
+        → concluded (allTaken (taken (record { given = g; underway = underway; stage = q }) (packed t)) (map packed ts)) ≡ meaning g (partsFrom underway q (divided (t ∷ ts)))
     go true e law =
-        ap (λ (x : Parts). concluded (allTaken x (map packed ts))) (semicolon-taken g begun q t e (a .0))
+        ap (λ (x : Parts). concluded (allTaken x (map packed ts))) (semicolon-taken g underway q t e (a .0))
         ∙ law (add g p) (foreign p) (cond (foreign p) Wrong Start) (next-fine (foreign p)) (next-start (foreign p))
         ∙ part-ends g p ts
         ∙ ap (λ (x : Part). meaning g (x ∷ parts (divided ts))) (sym (finish q f))
-        ∙ ap (meaning g) (sym (first-ends begun q ts))
-        ∙ ap (λ (x : List (List Token)). meaning g (partsFrom begun q x)) (sym (divided-semicolon t ts e))
+        ∙ ap (meaning g) (sym (first-ends underway q ts))
+        ∙ ap (λ (x : List (List Token)). meaning g (partsFrom underway q x)) (sym (divided-semicolon t ts e))
     go false e law =
-        ap (λ (x : Parts). concluded (allTaken x (map packed ts))) (token-taken g begun q t e (a .0))
+        ap (λ (x : Parts). concluded (allTaken x (map packed ts))) (token-taken g underway q t e (a .0))
         ∙ law g true (advance q (packed t)) (step q f t (a .0) ts .fine) (λ z. absurd (true≢false z))
-        ∙ ap (meaning g) (sym (first-goes-on begun q (advance q (packed t)) t ts s e (λ xs. step q f t (a .0) xs .same-part)))
+        ∙ ap (meaning g) (sym (first-goes-on underway q (advance q (packed t)) t ts s e (λ xs. step q f t (a .0) xs .same-part)))
 
 -- A line on its tokens' numbers.
 codedParts : List ℕ → Meaning
 codedParts [] = Refused Ungrammatical
-codedParts (c ∷ ts) = cond (eqb c (spelt ":")) (concluded (allTaken noParts ts)) (Refused Ungrammatical)
+codedParts (c ∷ ts) = cond (eqb c (codeOf ":")) (concluded (allTaken noParts ts)) (Refused Ungrammatical)
 
 coded : ℕ → List ℕ → Meaning
 coded k [] = Refused WrongNumber
-coded k (n ∷ ts) = cond (eqb (numberOf n) k) (codedParts ts) (Refused WrongNumber)
+coded k (n ∷ ts) = cond (eqb (decimalOf n) k) (codedParts ts) (Refused WrongNumber)
 
 coded-parts : (ts : List Token) → AllBytes ts → behindNumber ts ≡ codedParts (map packed ts)
 unfolding behindNumber codedParts
@@ -187,7 +188,7 @@ coded-parts (c ∷ ts) a =
 coded-line : (k : ℕ) (ts : List Token) → AllBytes ts → numbered k ts ≡ coded k (map packed ts)
 unfolding numbered coded
 coded-line k [] a = refl
-coded-line k (n ∷ ts) a = rw (number-of n (a .0), coded-parts ts (a .1))
+coded-line k (n ∷ ts) a = rw (decimal-of n (a .0), coded-parts ts (a .1))
 
 -- A 65th line.
 pub extra-line : (text : List ℕ) (at k : ℕ) → 64 ≤ k → Faulty ExtraLine ≡ readingAt text at k
@@ -201,34 +202,34 @@ module _ (text : List ℕ) (all-bytes : Bytes text) (at k : ℕ) (h : k < 64) (f
   read =
       rw (lt-ltb k 64 h, coded-line k (tokens (lineAt text at)) (line-bytes text at all-bytes), next text at first f .codes)
 
-  pub wrong-number : (numberOf (first .token) ≡ k → ⊥) → Faulty WrongNumber ≡ readingAt text at k
+  pub wrong-number : (decimalOf (first .token) ≡ k → ⊥) → Faulty WrongNumber ≡ readingAt text at k
   unfolding coded
   wrong-number e = sym (read ∙ go (eqb (first .token) 1))
     where
       go : (b : Bool) → reading (coded k (cond b [] (first .token ∷ codesAt text (first .behind)))) (nextLine text at) ≡ Faulty WrongNumber
       go true = refl
-      go false = rw (ne-eqb (numberOf (first .token)) k e)
+      go false = rw (ne-eqb (decimalOf (first .token)) k e)
 
-  module _ (e : numberOf (first .token) ≡ k) (colon : Scanned) (c : colon ≡ scanned text (first .behind)) where
+  module _ (e : decimalOf (first .token) ≡ k) (colon : Scanned) (c : colon ≡ scanned text (first .behind)) where
     no-number : first .token ≡ 1 → ⊥
-    unfolding numberOf
-    no-number z = let n : 100 ≡ k = ap numberOf (sym z) ∙ e in omega arith
+    unfolding decimalOf
+    no-number z = let n : 100 ≡ k = ap decimalOf (sym z) ∙ e in omega arith
 
     read-on : readingAt text at k ≡ reading (codedParts (cond (eqb (colon .token) 1) [] (colon .token ∷ codesAt text (colon .behind)))) (nextLine text at)
     unfolding coded
-    read-on = read ∙ rw (ne-eqb (first .token) 1 no-number, eq-eqb (numberOf (first .token)) k e, next text (first .behind) colon c .codes)
+    read-on = read ∙ rw (ne-eqb (first .token) 1 no-number, eq-eqb (decimalOf (first .token)) k e, next text (first .behind) colon c .codes)
 
-    pub no-colon : (colon .token ≡ spelt ":" → ⊥) → Faulty Ungrammatical ≡ readingAt text at k
+    pub no-colon : (colon .token ≡ codeOf ":" → ⊥) → Faulty Ungrammatical ≡ readingAt text at k
     unfolding codedParts
     no-colon n = sym (read-on ∙ go (eqb (colon .token) 1))
       where
         go : (b : Bool) → reading (codedParts (cond b [] (colon .token ∷ codesAt text (colon .behind)))) (nextLine text at) ≡ Faulty Ungrammatical
         go true = refl
-        go false = rw (ne-eqb (colon .token) (spelt ":") n)
+        go false = rw (ne-eqb (colon .token) (codeOf ":") n)
 
-    pub with-parts : colon .token ≡ spelt ":" → reading (concluded (allTaken noParts (codesAt text (colon .behind)))) (nextLine text (colon .behind)) ≡ readingAt text at k
+    pub with-parts : colon .token ≡ codeOf ":" → reading (concluded (allTaken noParts (codesAt text (colon .behind)))) (nextLine text (colon .behind)) ≡ readingAt text at k
     unfolding codedParts
     with-parts z =
         let q : endAt text (colon .behind) ≡ endAt text at = next text (first .behind) colon c .line-end ∙ next text at first f .line-end in
-        ap (λ (n : ℕ). reading (concluded (allTaken noParts (codesAt text (colon .behind)))) (cond (ltb n (length text)) (n + 1) n)) q
+        ap (λ (n : ℕ). reading (concluded (allTaken noParts (codesAt text (colon .behind)))) (pastEnd n (length text))) q
         ∙ sym (read-on ∙ rw z)

@@ -1,4 +1,4 @@
 pub mod Line
 pub mod Reading
-pub mod Progress
 pub mod Listing
+pub mod Code

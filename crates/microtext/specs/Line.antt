@@ -5,24 +5,25 @@ use mathlib.Core.List.{List, [], _∷_}
 use lib.Dec.{leb, ltb, eqb}
 use Rattle.microword.specs.Microword.{wordOf}
 use Rattle.microword.specs.declared.Fields.{Fields}
-use Rattle.token.specs.Text.{_is_}
 use Rattle.token.specs.Tokens.{Token, tokens}
-use Rattle.part.specs.Grammar.{number, part}
+use Rattle.part.specs.Grammar.{part}
 use Rattle.part.specs.declared.Part.{Part}
 use Rattle.part.specs.declared.Part.the-variants.{Operation, Transfer, Jump, Foreign}
+use Rattle.text.specs.Text.{_is_}
+use Rattle.text.specs.Decimal.{fromDecimal}
 use Rattle.microtext.specs.declared.Given.{Given}
 use Rattle.microtext.specs.declared.Fault.{Fault}
 use Rattle.microtext.specs.declared.Fault.the-variants.{ExtraLine, WrongNumber, Ungrammatical, FarTarget, WrongParts}
 use Rattle.microtext.specs.declared.Meaning.{Meaning}
 use Rattle.microtext.specs.declared.Meaning.the-variants.{Word, Refused}
 
--- The answer number of a line's refusal.
-abbrev pub faultNumber : Fault → ℕ
-faultNumber ExtraLine = 11
-faultNumber WrongNumber = 12
-faultNumber Ungrammatical = 13
-faultNumber FarTarget = 14
-faultNumber WrongParts = 15
+-- Document 01's number of a line's refusal.
+abbrev pub number : Fault → ℕ
+number ExtraLine = 11
+number WrongNumber = 12
+number Ungrammatical = 13
+number FarTarget = 14
+number WrongParts = 15
 
 -- The token t before these pieces: a semicolon divides, any other token belongs to the first piece.
 unfoldable pub cut : Token → List (List Token) → List (List Token)
@@ -56,14 +57,14 @@ someForeign [] = false
 someForeign (p ∷ ps) = foreign p || someForeign ps
 
 -- A transfer, a jump, a jump with a test among the fields.
-abbrev pub transfers : Fields → Bool
-transfers m = eqb (m .rd) 1 || eqb (m .wr) 1
+abbrev pub hasTransfer : Fields → Bool
+hasTransfer m = eqb (m .rd) 1 || eqb (m .wr) 1
 
-abbrev pub jumps : Fields → Bool
-jumps m = not (eqb (m .sq) 0)
+abbrev pub hasJump : Fields → Bool
+hasJump m = not (eqb (m .sq) 0)
 
-abbrev pub tests : Fields → Bool
-tests m = eqb (m .sq) 1 || eqb (m .sq) 2
+abbrev pub hasTest : Fields → Bool
+hasTest m = eqb (m .sq) 1 || eqb (m .sq) 2
 
 -- One part more. An operation gives A, B, F and, but for `alu`, S with HS; `rd` and `wr` RD and WR; a jump SQ and END.
 unfoldable pub add : Given → Part → Given
@@ -79,7 +80,7 @@ add g (Transfer rd wr) =
     let m : Fields = g .fields in
     record {
       far = g .far;
-      twice = g .twice || transfers m;
+      twice = g .twice || hasTransfer m;
       operation = g .operation;
       fields = record { a = m .a; b = m .b; s = m .s; hs = m .hs; f = m .f; rd = rd; wr = wr; sq = m .sq; end = m .end };
     }
@@ -87,7 +88,7 @@ add g (Jump sq k) =
     let m : Fields = g .fields in
     record {
       far = g .far || leb 64 k;
-      twice = g .twice || jumps m;
+      twice = g .twice || hasJump m;
       operation = g .operation;
       fields = record { a = m .a; b = m .b; s = m .s; hs = m .hs; f = m .f; rd = m .rd; wr = m .wr; sq = sq; end = k };
     }
@@ -105,7 +106,7 @@ given g (p ∷ ps) = given (add g p) ps
 unfoldable pub clash : Given → Bool
 clash g =
     let m : Fields = g .fields in
-    g .twice || (tests m && not (g .operation)) || (g .operation && eqb (m .hs) 0 && not (tests m))
+    g .twice || (hasTest m && not (g .operation)) || (g .operation && eqb (m .hs) 0 && not (hasTest m))
 
 -- 14 comes before 15.
 unfoldable pub settled : Given → Meaning
@@ -126,7 +127,7 @@ behindNumber (c ∷ ts) = cond (c is ":") (meaning nothing (parts (divided ts)))
 -- 12: the number is missing, has a leading zero, or is not the next from 0.
 unfoldable pub numbered : ℕ → List Token → Meaning
 numbered k [] = Refused WrongNumber
-numbered k (n ∷ ts) = cond (eqb (number n) k) (behindNumber ts) (Refused WrongNumber)
+numbered k (n ∷ ts) = cond (eqb (fromDecimal n) k) (behindNumber ts) (Refused WrongNumber)
 
 -- The line k, counted from 0, of these bytes. 11: a 65th line, whatever it holds.
 unfoldable pub line : ℕ → List ℕ → Meaning

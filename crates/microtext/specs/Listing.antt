@@ -1,21 +1,18 @@
 -- The bytes of a listing (01, Micro text and images): of an operation, of a jump, of a line, of a control store.
-use Prim.Native.Nat.{ℕ, suc, _+_, _/_, _%_}
+use Prim.Native.Nat.{ℕ, suc, _+_}
 use mathlib.Core.Bool.{Bool, cond, not, _||_}
 use mathlib.Core.List.{List, [], _∷_, _++_}
-use lib.Dec.{ltb, eqb}
+use lib.Dec.{eqb}
 use lib.ListN.{getD}
 use Rattle.microword.specs.Microword.{fieldsOf, normalForm, idle}
 use Rattle.microword.specs.declared.Fields.{Fields}
-use Rattle.token.specs.Text.{bytes}
 use Rattle.part.specs.Grammar.{registers}
-
--- A number below 100 in decimal, with no leading zero; byte 48 is the digit 0.
-unfoldable pub decimal : ℕ → List ℕ
-decimal k = cond (ltb k 10) ((48 + k) ∷ []) ((48 + k / 10) ∷ (48 + k % 10) ∷ [])
+use Rattle.text.specs.Text.{bytes}
+use Rattle.text.specs.Decimal.{shortDecimal}
 
 -- A register by its name.
-abbrev pub register : ℕ → List ℕ
-register r = getD registers r []
+abbrev pub registerName : ℕ → List ℕ
+registerName r = getD registers r []
 
 -- What F computes of the registers a and b: r, r+1, r-1, r+r, r-r, r^r, <<r, >>r.
 unfoldable pub formulas : List ℕ → List ℕ → List (List ℕ)
@@ -24,22 +21,22 @@ formulas a b =
     ∷ (bytes ">>" ++ a) ∷ []
 
 abbrev pub formula : Fields → List ℕ
-formula m = getD (formulas (register (m .a)) (register (m .b))) (m .f) []
+formula m = getD (formulas (registerName (m .a)) (registerName (m .b))) (m .f) []
 
 -- `alu` stores nothing.
 abbrev pub destination : Fields → List ℕ
-destination m = cond (eqb (m .hs) 0) (bytes "alu") (register (m .s))
+destination m = cond (eqb (m .hs) 0) (bytes "alu") (registerName (m .s))
 
 -- An operation is a register or `alu`, `:=`, and one of the formulas; no brackets.
 unfoldable pub operation : Fields → List ℕ
 operation m = destination m ++ bytes ":=" ++ formula m
 
 -- Jumps, by SQ: none, `if n then goto k`, `if z then goto k`, `goto k`.
-unfoldable pub jumps : List (List ℕ)
-jumps = [] ∷ bytes "if n then goto " ∷ bytes "if z then goto " ∷ bytes "goto " ∷ []
+unfoldable pub jumpTexts : List (List ℕ)
+jumpTexts = [] ∷ bytes "if n then goto " ∷ bytes "if z then goto " ∷ bytes "goto " ∷ []
 
 unfoldable pub jump : Fields → List ℕ
-jump m = getD jumps (m .sq) [] ++ decimal (m .end)
+jump m = getD jumpTexts (m .sq) [] ++ shortDecimal (m .end)
 
 -- For each part a space, the part, a semicolon.
 abbrev pub part : Bool → List ℕ → List ℕ
@@ -57,7 +54,7 @@ jumpPart m = part (not (eqb (m .sq) 0)) (jump m)
 
 -- Number, colon, then the parts in the order operation, rd or wr, jump; byte 10 last.
 unfoldable pub line : ℕ → Fields → List ℕ
-line number m = decimal number ++ bytes ":" ++ operationPart m ++ transferPart m ++ jumpPart m ++ 10 ∷ []
+line number m = shortDecimal number ++ bytes ":" ++ operationPart m ++ transferPart m ++ jumpPart m ++ 10 ∷ []
 
 -- Words as lines, numbered from `number` on.
 unfoldable pub lines : ℕ → List ℕ → List ℕ

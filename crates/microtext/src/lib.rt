@@ -1,16 +1,15 @@
 // Micro text: what one line of it means. A line is scanned once, token by token, and each token moves a part along.
 ghost use mathlib.Core.Path.{_≡_};
-ghost use Prim.Native.Nat.{_+_};
 ghost use mathlib.Core.Bool.{cond};
 ghost use lib.Dec.{ltb};
-ghost use lib.ListN.{length};
-ghost use Rattle.token.specs.Next.{codesAt};
-ghost use Rattle.microtext.specs.Line.{foreign as foreignPart, add as addTo, clash as clashOf, settled as settledBy};
-ghost use Rattle.microtext.specs.Progress.{closed as closedBy, taken as takenBy, allTaken, concluded as concludedBy, noParts};
-ghost use Rattle.microtext.specs.Reading.{reading as readingOf, nextLine, readingAt};
+ghost use Rattle.text.specs.Text.{nextLine};
+ghost use Rattle.token.specs.Code.Numbers.{codesAt};
+ghost use Rattle.microtext.specs.Line.{number, foreign as foreignPart, add as addTo, clash as clashOf, settled as settledBy};
+ghost use Rattle.microtext.specs.Reading.{reading as readingOf, readingAt};
+ghost use Rattle.microtext.specs.Code.Progress.{closed as closedBy, taken as takenBy, allTaken, concluded as concludedBy, noParts};
 use microword::Fields;
 use part::Part;
-use part::Place;
+use part::Stage;
 use word::Line;
 
 // What the parts of a line have given: a target above 63, a kind twice, an operation, and the fields.
@@ -21,14 +20,14 @@ pub struct Given {
     pub fields: Fields,
 }
 
-// The parts of a line so far; `begun` says that one is under way.
+// The parts of a line so far; `underway` says that one is under way.
 pub struct Parts {
     pub given: Given,
-    pub begun: bool,
-    pub place: Place,
+    pub underway: bool,
+    pub stage: Stage,
 }
 
-// Why a line is refused; document 01 numbers these 11 to 15.
+// Why a line is refused.
 pub enum Fault {
     ExtraLine,
     WrongNumber,
@@ -37,13 +36,28 @@ pub enum Fault {
     WrongParts,
 }
 
+impl Fault {
+    // Document 01's number of it.
+    pub fn number(self) -> u32
+        ensures { λ r. ⌜ r ≡ number self ⌝ }
+    {
+        match self {
+            Fault::ExtraLine => 11,
+            Fault::WrongNumber => 12,
+            Fault::Ungrammatical => 13,
+            Fault::FarTarget => 14,
+            Fault::WrongParts => 15,
+        }
+    }
+}
+
 // What a line means.
 pub enum Meaning {
     Word(u32),
     Refused(Fault),
 }
 
-// A line's word and the place where the next line begins, or its fault.
+// A line's word and where the next line begins, or its fault.
 pub enum Reading {
     Line { word: u32, next: usize },
     Faulty(Fault),
@@ -148,15 +162,15 @@ fn closed(g: Given, part: Part) -> Parts
     if is_foreign(part) {
         return Parts {
             given: g,
-            begun: true,
-            place: Place::Wrong,
+            underway: true,
+            stage: Stage::Wrong,
         };
     }
     let given = add(g, part);
     Parts {
         given,
-        begun: false,
-        place: Place::Start,
+        underway: false,
+        stage: Stage::Start,
     }
 }
 
@@ -165,14 +179,14 @@ fn taken(parts: Parts, t: u64) -> Parts
     ensures { λ r. ⌜ r ≡ takenBy parts t ⌝ }
 {
     let given = parts.given;
-    let place = parts.place;
+    let stage = parts.stage;
     if t == SEMICOLON {
-        return closed(given, part::finished(place));
+        return closed(given, part::finished(stage));
     }
     Parts {
         given,
-        begun: true,
-        place: part::advance(place, t),
+        underway: true,
+        stage: part::advance(stage, t),
     }
 }
 
@@ -203,9 +217,9 @@ fn concluded(parts: Parts) -> Meaning
     ensures { λ r. ⌜ r ≡ concludedBy parts ⌝ }
 {
     let given = parts.given;
-    let place = parts.place;
-    if parts.begun {
-        let part = part::finished(place);
+    let stage = parts.stage;
+    if parts.underway {
+        let part = part::finished(stage);
         if is_foreign(part) {
             return Meaning::Refused(Fault::Ungrammatical);
         }
@@ -221,16 +235,6 @@ fn as_reading(meaning: Meaning, next: usize) -> Reading
         Meaning::Word(word) => Reading::Line { word, next },
         Meaning::Refused(fault) => Reading::Faulty(fault),
     }
-}
-
-// Behind the byte that ends a line at `end` of `length`.
-fn past(end: usize, length: usize) -> usize
-    ensures { λ r. ⌜ r ≡ cond (ltb end length) (end + 1) end ⌝ }
-{
-    if end < length {
-        return end + 1;
-    }
-    end
 }
 
 // The parts of the line that goes on at `at`.
@@ -254,15 +258,15 @@ fn read_parts(text: &[u8], at: usize) -> Reading
                 end: 0,
             },
         },
-        begun: false,
-        place: Place::Start,
+        underway: false,
+        stage: Stage::Start,
     };
     let mut next = token::next_token(text, at);
     while next.token != NONE {
         parts = taken(parts, next.token);
         next = token::next_token(text, next.behind);
     }
-    as_reading(concluded(parts), past(next.behind, text.len()))
+    as_reading(concluded(parts), text::past_end(next.behind, text.len()))
 }
 
 // The line of `text` that begins at `at`, as the line numbered `line`.
@@ -274,7 +278,7 @@ pub fn read_line(text: &[u8], at: usize, line: Line) -> Reading
         return Reading::Faulty(Fault::ExtraLine);
     }
     let first = token::next_token(text, at);
-    if part::number(first.token) != k as u32 {
+    if token::decimal(first.token) != k as u32 {
         return Reading::Faulty(Fault::WrongNumber);
     }
     let colon = token::next_token(text, first.behind);

@@ -1,4 +1,4 @@
--- Going along a part token by token comes to the part that its tokens are: at each place, `rest` says what the tokens to come make of
+-- Going along a part token by token comes to the part that its tokens are: at each stage, `rest` says what the tokens to come make of
 -- what has been read, and one token more leaves that unchanged.
 use Prim.Native.Nat.{ℕ, _<_}
 use mathlib.Core.Path.{_≡_, refl, sym, ap, _∙_}
@@ -6,25 +6,28 @@ use mathlib.Core.Bool.{Bool, true, false, cond, _&&_, true≢false, false≢true
 use mathlib.Core.List.{List, [], _∷_}
 use borrow.Author.Tests.{ltb-true}
 use lib.Dec.{ltb, eqb}
-use Rattle.token.specs.Text.{bytes, same, _is_}
 use Rattle.token.specs.Tokens.{Token}
-use Rattle.part.specs.Grammar.{place, register, destination, number, formula, last, bare, jump, test, part}
+use Rattle.text.specs.Text.{bytes, same, _is_}
+use Rattle.text.specs.Decimal.{fromDecimal}
+use Rattle.text.proofs.Same.{same-equal}
+use Rattle.token.proofs.Decimals.{decimal-of}
+use Rattle.part.specs.Grammar.{destination, formula, last, bare, jump, test, part, index, registerNamed}
 use Rattle.token.specs.Next.{packed}
-use Rattle.part.specs.Place.{completed, fromStart, fromValue, fromShift, fromFirst, fromSign, fromGoto, advance, finished}
 use Rattle.part.specs.declared.Part.{Part}
 use Rattle.part.specs.declared.Part.the-variants.{Operation, Transfer, Jump, Foreign}
-use Rattle.part.specs.declared.Place.{Place}
-use Rattle.part.specs.declared.Place.the-variants.{Start, Named, Assigned, Opened, Shift, First, Sign, Closing, If, Tested, Then, Goto, Whole, Wrong}
 use Rattle.word.proofs.Tests.{cond-same}
 use Rattle.token.proofs.Bytes.{Bytes}
-use Rattle.token.proofs.Packed.{known, same-equal}
-use Rattle.part.proofs.Words.{register-of, destination-of, number-of}
+use Rattle.token.proofs.Packed.{known}
+use Rattle.part.proofs.Words.{register-of, destination-of}
 use Rattle.part.proofs.Formula.{name, Name, plain-name, named, formula-nothing, formula-nowhere, only, closing, finishing, value, lift-foreign, lift-whole, Signed, plus, minus, and, Shifted, left, right, sign, shift, first-foreign, first-alone, first-closed, sign-foreign, sign-alone, sign-register, plus-one, minus-one, shift-alone, shift-foreign, shift-register, unclosed}
+use Rattle.part.specs.Code.Stage.{completed, fromStart, fromValue, fromShift, fromFirst, fromSign, fromGoto, advance, finished}
+use Rattle.part.specs.declared.Stage.{Stage}
+use Rattle.part.specs.declared.Stage.the-variants.{Start, Named, Assigned, Opened, Shift, First, Sign, Closing, If, Tested, Then, Goto, Whole, Wrong}
 
 -- What the tokens to come make of a jump's beginning.
 abbrev afterGoto : ℕ → List Token → Part
 afterGoto sq [] = Foreign
-afterGoto sq (k ∷ ts) = only (jump sq (number k)) ts
+afterGoto sq (k ∷ ts) = only (jump sq (fromDecimal k)) ts
 
 abbrev afterThen : ℕ → List Token → Part
 afterThen sq [] = Foreign
@@ -43,7 +46,7 @@ abbrev afterName : ℕ → List Token → Part
 afterName to [] = Foreign
 afterName to (u ∷ ts) = cond (u is ":=") (value false to ts) Foreign
 
-abbrev pub rest : Place → List Token → Part
+abbrev pub rest : Stage → List Token → Part
 rest Start ts = part ts
 rest (Named to) ts = afterName to ts
 rest (Assigned to) ts = value false to ts
@@ -59,8 +62,8 @@ rest (Goto sq) ts = afterGoto sq ts
 rest (Whole p) ts = only p ts
 rest Wrong ts = Foreign
 
--- What the places of a part keep to.
-abbrev pub Fine : Place → Type 0
+-- What the stages of a part keep to.
+abbrev pub Fine : Stage → Type 0
 Fine Start = Unit {0}
 Fine (Named to) = to < 9
 Fine (Assigned to) = to < 9
@@ -76,8 +79,8 @@ Fine (Goto sq) = Unit {0}
 Fine (Whole p) = Unit {0}
 Fine Wrong = Unit {0}
 
--- One step: the tokens to come make the same part, and the place is fine.
-pub record Step (u : Token) (ts : List Token) (before : Part) (q : Place) : Type 0 where
+-- One step: the tokens to come make the same part, and the stage is fine.
+pub record Step (u : Token) (ts : List Token) (before : Part) (q : Stage) : Type 0 where
   pub same-part : before ≡ rest q ts
   pub fine : Fine q
 
@@ -86,7 +89,7 @@ unassigned : (t : Token) → ltb (destination t) 9 ≡ false → (u : Token) (ts
 unassigned t e u ts = rw (formula-nowhere (destination t) e ts) (cond-same (u is ":=") Foreign)
 
 no-destination : (ltb (destination (bytes "rd")) 9 ≡ false) × (ltb (destination (bytes "wr")) 9 ≡ false) × (ltb (destination (bytes "goto")) 9 ≡ false)
-unfolding destination place same
+unfolding destination index same
 no-destination = (refl, refl, refl)
 
 starts-rd : (ts : List Token) → part (bytes "rd" ∷ ts) ≡ only (Transfer 1 0) ts
@@ -145,14 +148,14 @@ from-value : (bracket : Bool) (to : ℕ) → to < 9 → (u : Token) → Bytes u 
     → Step u ts (value bracket to (u ∷ ts)) (fromValue bracket to (packed u))
 unfolding fromValue formula
 from-value bracket to k u b plain ts =
-    rw (known u (bytes "<<") b refl, known u (bytes ">>") b refl, register-of u b) (go (u is "<<") (u is ">>") (ltb (register u) 8) refl refl refl)
+    rw (known u (bytes "<<") b refl, known u (bytes ">>") b refl, register-of u b) (go (u is "<<") (u is ">>") (ltb (registerNamed u) 8) refl refl refl)
   where
-    go : (l g r : Bool) → u is "<<" ≡ l → u is ">>" ≡ g → ltb (register u) 8 ≡ r
-        → Step u ts (value bracket to (u ∷ ts)) (cond l (Shift bracket to 6) (cond g (Shift bracket to 7) (cond r (First bracket to (register u)) Wrong)))
+    go : (l g r : Bool) → u is "<<" ≡ l → u is ">>" ≡ g → ltb (registerNamed u) 8 ≡ r
+        → Step u ts (value bracket to (u ∷ ts)) (cond l (Shift bracket to 6) (cond g (Shift bracket to 7) (cond r (First bracket to (registerNamed u)) Wrong)))
     go true g r l′ g′ r′ = record { same-part = rw (same-equal u (bytes "<<") l′); fine = (k, left) }
     go false true r l′ g′ r′ = record { same-part = rw (same-equal u (bytes ">>") g′); fine = (k, right) }
     go false false true l′ g′ r′ =
-        let h = ltb-true (register u) 8 r′ in
+        let h = ltb-true (registerNamed u) 8 r′ in
         record { same-part = ap (λ (x : Token). value bracket to (x ∷ ts)) (named u h); fine = (k, h) }
     go false false false l′ g′ r′ =
         record { same-part = lift-foreign bracket to [] u ts plain (λ p q. refl) (formula-nothing to u r′ l′ g′); fine = tt }
@@ -187,12 +190,12 @@ other-words = (refl, refl)
 from-shift : (bracket : Bool) (to f : ℕ) → to < 9 → Shifted f → (u : Token) → Bytes u → (ts : List Token)
     → Step u ts (value bracket to (shift f ∷ u ∷ ts)) (fromShift bracket to f (packed u))
 unfolding fromShift
-from-shift bracket to f k s u b ts = rw (register-of u b) (go (ltb (register u) 8) refl)
+from-shift bracket to f k s u b ts = rw (register-of u b) (go (ltb (registerNamed u) 8) refl)
   where
-    go : (r : Bool) → ltb (register u) 8 ≡ r → Step u ts (value bracket to (shift f ∷ u ∷ ts)) (cond r (completed bracket (Operation to f (register u) 0)) Wrong)
+    go : (r : Bool) → ltb (registerNamed u) 8 ≡ r → Step u ts (value bracket to (shift f ∷ u ∷ ts)) (cond r (completed bracket (Operation to f (registerNamed u) 0)) Wrong)
     go true r =
-        let h = ltb-true (register u) 8 r in
-        let n = register u in
+        let h = ltb-true (registerNamed u) 8 r in
+        let n = registerNamed u in
         record {
           same-part =
               ap (λ (x : Token). value bracket to (shift f ∷ x ∷ ts)) (named u h)
@@ -233,12 +236,12 @@ from-first bracket to a k h u b ts =
 from-sign : (bracket : Bool) (to f a : ℕ) → to < 9 → a < 8 → Signed f → (u : Token) → Bytes u → (ts : List Token)
     → Step u ts (value bracket to (name a ∷ sign f ∷ u ∷ ts)) (fromSign bracket to f a (packed u))
 unfolding fromSign
-from-sign bracket to f a k h s u b ts = rw (register-of u b, known u (bytes "1") b refl) (go (ltb (register u) 8) (u is "1") refl refl s)
+from-sign bracket to f a k h s u b ts = rw (register-of u b, known u (bytes "1") b refl) (go (ltb (registerNamed u) 8) (u is "1") refl refl s)
   where
     n : Name a
     n = plain-name a h
 
-    foreign : {g : ℕ} → Signed g → ltb (register u) 8 ≡ false → ((g ≡ 5 → ⊥) → u is "1" ≡ false) → Step u ts (value bracket to (name a ∷ sign g ∷ u ∷ ts)) Wrong
+    foreign : {g : ℕ} → Signed g → ltb (registerNamed u) 8 ≡ false → ((g ≡ 5 → ⊥) → u is "1" ≡ false) → Step u ts (value bracket to (name a ∷ sign g ∷ u ∷ ts)) Wrong
     foreign {g} x r o =
         record {
           same-part = lift-foreign bracket to (name a ∷ sign g ∷ []) u ts (λ e. n .no-open) (λ p q. sign-alone to a n x) (sign-foreign to a n x u r o);
@@ -256,13 +259,13 @@ from-sign bracket to f a k h s u b ts = rw (register-of u b, known u (bytes "1")
           fine = completed-fine bracket p;
         }
 
-    go : (r o : Bool) → ltb (register u) 8 ≡ r → u is "1" ≡ o → {g : ℕ} → Signed g
+    go : (r o : Bool) → ltb (registerNamed u) 8 ≡ r → u is "1" ≡ o → {g : ℕ} → Signed g
         → Step u ts (value bracket to (name a ∷ sign g ∷ u ∷ ts))
-        (cond r (completed bracket (Operation to g a (register u)))
+        (cond r (completed bracket (Operation to g a (registerNamed u)))
         (cond (o && eqb g 3) (completed bracket (Operation to 1 a 0)) (cond (o && eqb g 4) (completed bracket (Operation to 2 a 0)) Wrong)))
     go true o r′ o′ {g} x =
-        let l = ltb-true (register u) 8 r′ in
-        let m = register u in
+        let l = ltb-true (registerNamed u) 8 r′ in
+        let m = registerNamed u in
         record {
           same-part =
               ap (λ (y : Token). value bracket to (name a ∷ sign g ∷ y ∷ ts)) (named u l)
@@ -278,15 +281,15 @@ from-sign bracket to f a k h s u b ts = rw (register-of u b, known u (bytes "1")
 -- Jumps.
 from-goto : (sq : ℕ) (u : Token) → Bytes u → (ts : List Token) → Step u ts (afterGoto sq (u ∷ ts)) (fromGoto sq (packed u))
 unfolding fromGoto jump
-from-goto sq u b ts = rw (number-of u b) (go (ltb (number u) 100) ts)
+from-goto sq u b ts = rw (decimal-of u b) (go (ltb (fromDecimal u) 100) ts)
   where
-    go : (d : Bool) (ts : List Token) → Step u ts (only (cond d (Jump sq (number u)) Foreign) ts) (cond d (Whole (Jump sq (number u))) Wrong)
+    go : (d : Bool) (ts : List Token) → Step u ts (only (cond d (Jump sq (fromDecimal u)) Foreign) ts) (cond d (Whole (Jump sq (fromDecimal u))) Wrong)
     go true ts = record { same-part = refl; fine = tt }
     go false [] = record { same-part = refl; fine = tt }
     go false (t ∷ ts) = record { same-part = refl; fine = tt }
 
 -- A test behind its `n` or `z` is `then goto` and a number.
-tested : (c : Token) (sq : ℕ) → ((k : Token) → cond (c is "n") (jump 1 (number k)) (cond (c is "z") (jump 2 (number k)) Foreign) ≡ jump sq (number k))
+tested : (c : Token) (sq : ℕ) → ((k : Token) → cond (c is "n") (jump 1 (fromDecimal k)) (cond (c is "z") (jump 2 (fromDecimal k)) Foreign) ≡ jump sq (fromDecimal k))
     → (ts : List Token) → afterIf (c ∷ ts) ≡ afterTest sq ts
 unfolding test
 tested c sq e [] = refl
@@ -294,7 +297,7 @@ tested c sq e (t ∷ []) = sym (cond-same (t is "then") Foreign)
 tested c sq e (t ∷ g ∷ []) = rw (cond-same (g is "goto") Foreign) (sym (cond-same (t is "then") Foreign))
 tested c sq e (t ∷ g ∷ k ∷ []) = rw (e k) (go (t is "then") (g is "goto"))
   where
-    go : (a b : Bool) → cond (a && b) (jump sq (number k)) Foreign ≡ cond a (cond b (jump sq (number k)) Foreign) Foreign
+    go : (a b : Bool) → cond (a && b) (jump sq (fromDecimal k)) Foreign ≡ cond a (cond b (jump sq (fromDecimal k)) Foreign) Foreign
     go true b = refl
     go false b = refl
 tested c sq e (t ∷ g ∷ k ∷ x ∷ ts) = rw (cond-same (g is "goto") Foreign) (sym (cond-same (t is "then") Foreign))
@@ -317,7 +320,7 @@ from-if u b ts = rw (known u (bytes "n") b refl, known u (bytes "z") b refl) (go
     go false false n′ z′ = record { same-part = untested u n′ z′ ts; fine = tt }
 
 -- Where one word alone may follow.
-expected : (u : Token) (ts : List Token) (b : Bool) (q : Place) → Fine q → Step u ts (cond b (rest q ts) Foreign) (cond b q Wrong)
+expected : (u : Token) (ts : List Token) (b : Bool) (q : Stage) → Fine q → Step u ts (cond b (rest q ts) Foreign) (cond b q Wrong)
 expected u ts true q f = record { same-part = refl; fine = f }
 expected u ts false q f = record { same-part = refl; fine = tt }
 
@@ -330,7 +333,7 @@ from-assigned to k u b ts = rw (known u (bytes "(") b refl) (go (u is "(") refl)
     go false e = from-value false to k u b (λ z. e) ts
 
 -- One token more.
-pub step : (p : Place) → Fine p → (u : Token) → Bytes u → (ts : List Token) → Step u ts (rest p (u ∷ ts)) (advance p (packed u))
+pub step : (p : Stage) → Fine p → (u : Token) → Bytes u → (ts : List Token) → Step u ts (rest p (u ∷ ts)) (advance p (packed u))
 unfolding advance
 step Start f u b ts = from-start u b ts
 step (Named to) f u b ts = rw (known u (bytes ":=") b refl) (expected u ts (u is ":=") (Assigned to) f)
@@ -348,7 +351,7 @@ step (Whole p) f u b ts = record { same-part = refl; fine = tt }
 step Wrong f u b ts = record { same-part = refl; fine = tt }
 
 -- The end of a part.
-pub finish : (p : Place) → Fine p → rest p [] ≡ finished p
+pub finish : (p : Stage) → Fine p → rest p [] ≡ finished p
 unfolding finished part formula last
 finish Start f = refl
 finish (Named to) f = refl

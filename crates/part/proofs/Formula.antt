@@ -7,13 +7,13 @@ use native.Mathlib.Omega.{arith}
 use borrow.Author.Tests.{lt-ltb, eqb-true, not-true}
 use lib.Dec.{ltb, eqb}
 use lib.ListN.{getD}
-use Rattle.token.specs.Text.{bytes, same, _is_}
 use Rattle.token.specs.Tokens.{Token}
-use Rattle.part.specs.Grammar.{registers, place, register, operation, formula, last, front, bare}
+use Rattle.text.specs.Text.{bytes, same, _is_}
+use Rattle.part.specs.Grammar.{registers, operation, formula, last, front, bare, index, registerNamed}
 use Rattle.part.specs.declared.Part.{Part}
 use Rattle.part.specs.declared.Part.the-variants.{Operation, Foreign}
 use Rattle.word.proofs.Tests.{both, cond-same, all, all-at}
-use Rattle.part.proofs.Words.{place-holds}
+use Rattle.part.proofs.Words.{index-holds}
 
 -- The register a, written out.
 abbrev pub name : ℕ → Token
@@ -22,14 +22,14 @@ name a = getD registers a []
 -- A register's name is that of its number, and none of the other words of a formula.
 plainName : ℕ → Bool
 plainName a =
-    eqb (register (name a)) a && not (name a is "(") && not (name a is ")") && not (name a is "1") && not (name a is "<<") && not (name a is ">>")
+    eqb (registerNamed (name a)) a && not (name a is "(") && not (name a is ")") && not (name a is "1") && not (name a is "<<") && not (name a is ">>")
 
 plain-names : all 8 plainName ≡ true
-unfolding all plainName register place same
+unfolding all plainName registerNamed index same
 plain-names = refl
 
 pub record Name (a : ℕ) : Type 0 where
-  pub number : register (name a) ≡ a
+  pub number : registerNamed (name a) ≡ a
   pub no-open : name a is "(" ≡ false
   pub no-close : name a is ")" ≡ false
   pub no-one : name a is "1" ≡ false
@@ -45,7 +45,7 @@ plain-name a h =
     let e4 = both _ _ (e3 .0) in
     let e5 = both _ _ (e4 .0) in
     record {
-      number = eqb-true (register (name a)) a (e5 .0);
+      number = eqb-true (registerNamed (name a)) a (e5 .0);
       no-open = not-true _ (e5 .1);
       no-close = not-true _ (e4 .1);
       no-one = not-true _ (e3 .1);
@@ -53,11 +53,11 @@ plain-name a h =
       no-right = not-true _ (e1 .1);
     }
 
-pub named : (u : Token) → register u < 8 → u ≡ name (register u)
-unfolding register
-named u h = place-holds u registers h
+pub named : (u : Token) → registerNamed u < 8 → u ≡ name (registerNamed u)
+unfolding registerNamed
+named u h = index-holds u registers h
 
--- An operation wants registers and a place to store.
+-- An operation wants registers and somewhere to store.
 module _ (to f a b : ℕ) where
   pub operation-first : ltb a 8 ≡ false → operation to f a b ≡ Foreign
   unfolding operation
@@ -76,21 +76,21 @@ module _ (to f a b : ℕ) where
   operation-whole k l m = rw (lt-ltb to 9 k, lt-ltb a 8 l, lt-ltb b 8 m)
 
 -- A formula that begins with no register and no shift, and one that stores nowhere.
-pub formula-nothing : (to : ℕ) (u : Token) → ltb (register u) 8 ≡ false → u is "<<" ≡ false → u is ">>" ≡ false → (ts : List Token) → formula to (u ∷ ts) ≡ Foreign
+pub formula-nothing : (to : ℕ) (u : Token) → ltb (registerNamed u) 8 ≡ false → u is "<<" ≡ false → u is ">>" ≡ false → (ts : List Token) → formula to (u ∷ ts) ≡ Foreign
 unfolding formula
-formula-nothing to u r l g [] = operation-first to 0 (register u) 0 r
+formula-nothing to u r l g [] = operation-first to 0 (registerNamed u) 0 r
 formula-nothing to u r l g (t ∷ []) = rw (l, g)
 formula-nothing to u r l g (o ∷ q ∷ []) =
-    simp (operation-first to 1 (register u) 0 r, operation-first to 2 (register u) 0 r, operation-first to 3 (register u) (register q) r, operation-first to 4 (register u) (register q) r, operation-first to 5 (register u) (register q) r, cond-same)
+    simp (operation-first to 1 (registerNamed u) 0 r, operation-first to 2 (registerNamed u) 0 r, operation-first to 3 (registerNamed u) (registerNamed q) r, operation-first to 4 (registerNamed u) (registerNamed q) r, operation-first to 5 (registerNamed u) (registerNamed q) r, cond-same)
 formula-nothing to u r l g (o ∷ q ∷ x ∷ ts) = refl
 
 pub formula-nowhere : (to : ℕ) → ltb to 9 ≡ false → (ts : List Token) → formula to ts ≡ Foreign
 unfolding formula
 formula-nowhere to e [] = refl
-formula-nowhere to e (r ∷ []) = operation-nowhere to 0 (register r) 0 e
-formula-nowhere to e (o ∷ r ∷ []) = simp (operation-nowhere to 6 (register r) 0 e, operation-nowhere to 7 (register r) 0 e, cond-same)
+formula-nowhere to e (r ∷ []) = operation-nowhere to 0 (registerNamed r) 0 e
+formula-nowhere to e (o ∷ r ∷ []) = simp (operation-nowhere to 6 (registerNamed r) 0 e, operation-nowhere to 7 (registerNamed r) 0 e, cond-same)
 formula-nowhere to e (r ∷ o ∷ q ∷ []) =
-    simp (operation-nowhere to 1 (register r) 0 e, operation-nowhere to 2 (register r) 0 e, operation-nowhere to 3 (register r) (register q) e, operation-nowhere to 4 (register r) (register q) e, operation-nowhere to 5 (register r) (register q) e, cond-same)
+    simp (operation-nowhere to 1 (registerNamed r) 0 e, operation-nowhere to 2 (registerNamed r) 0 e, operation-nowhere to 3 (registerNamed r) (registerNamed q) e, operation-nowhere to 4 (registerNamed r) (registerNamed q) e, operation-nowhere to 5 (registerNamed r) (registerNamed q) e, cond-same)
 formula-nowhere to e (r ∷ o ∷ q ∷ x ∷ ts) = refl
 
 -- Nothing may follow a whole part.
@@ -128,8 +128,8 @@ front-behind [] t ts = refl
 front-behind (x ∷ []) t ts = refl
 front-behind (x ∷ y ∷ p) t ts = ap (λ (z : List Token). x ∷ z) (front-behind (y ∷ p) t ts)
 
-no-register : ltb (register (bytes "(")) 8 ≡ false
-unfolding register place same
+no-register : ltb (registerNamed (bytes "(")) 8 ≡ false
+unfolding registerNamed index same
 no-register = refl
 
 -- Inside a bracket the formula is what stands before the closing one.
@@ -210,12 +210,12 @@ module _ (to a : ℕ) (n : Name a) where
   first-foreign u p m c (y ∷ []) = rw (p, m, c)
   first-foreign u p m c (y ∷ z ∷ ys) = refl
 
-  pub sign-foreign : {f : ℕ} → Signed f → (u : Token) → ltb (register u) 8 ≡ false → ((f ≡ 5 → ⊥) → u is "1" ≡ false) → (ys : List Token)
+  pub sign-foreign : {f : ℕ} → Signed f → (u : Token) → ltb (registerNamed u) 8 ≡ false → ((f ≡ 5 → ⊥) → u is "1" ≡ false) → (ys : List Token)
       → formula to (name a ∷ sign f ∷ u ∷ ys) ≡ Foreign
   unfolding formula same
-  sign-foreign plus u r o [] = rw (o (λ e. omega arith)) (operation-second to 3 (register (name a)) (register u) r)
-  sign-foreign minus u r o [] = rw (o (λ e. omega arith)) (operation-second to 4 (register (name a)) (register u) r)
-  sign-foreign and u r o [] = operation-second to 5 (register (name a)) (register u) r
+  sign-foreign plus u r o [] = rw (o (λ e. omega arith)) (operation-second to 3 (registerNamed (name a)) (registerNamed u) r)
+  sign-foreign minus u r o [] = rw (o (λ e. omega arith)) (operation-second to 4 (registerNamed (name a)) (registerNamed u) r)
+  sign-foreign and u r o [] = operation-second to 5 (registerNamed (name a)) (registerNamed u) r
   sign-foreign plus u r o (y ∷ ys) = refl
   sign-foreign minus u r o (y ∷ ys) = refl
   sign-foreign and u r o (y ∷ ys) = refl
@@ -249,8 +249,8 @@ module _ (to a : ℕ) (n : Name a) where
     minus-one (y ∷ ys) = refl
 
 -- Behind a shift.
-no-shift-register : {f : ℕ} → Shifted f → ltb (register (shift f)) 8 ≡ false
-unfolding register place same
+no-shift-register : {f : ℕ} → Shifted f → ltb (registerNamed (shift f)) 8 ≡ false
+unfolding registerNamed index same
 no-shift-register left = refl
 no-shift-register right = refl
 
@@ -259,23 +259,23 @@ module _ (to : ℕ) {f : ℕ} (s : Shifted f) where
   unfolding formula
   shift-more o q [] =
       let r = no-shift-register s in
-      simp (operation-first to 1 (register (shift f)) 0 r, operation-first to 2 (register (shift f)) 0 r, operation-first to 3 (register (shift f)) (register q) r, operation-first to 4 (register (shift f)) (register q) r, operation-first to 5 (register (shift f)) (register q) r, cond-same)
+      simp (operation-first to 1 (registerNamed (shift f)) 0 r, operation-first to 2 (registerNamed (shift f)) 0 r, operation-first to 3 (registerNamed (shift f)) (registerNamed q) r, operation-first to 4 (registerNamed (shift f)) (registerNamed q) r, operation-first to 5 (registerNamed (shift f)) (registerNamed q) r, cond-same)
   shift-more o q (y ∷ ys) = refl
 
   pub shift-alone : formula to (shift f ∷ []) ≡ Foreign
   unfolding formula
-  shift-alone = operation-first to 0 (register (shift f)) 0 (no-shift-register s)
+  shift-alone = operation-first to 0 (registerNamed (shift f)) 0 (no-shift-register s)
 
-  shifted : (r : Token) → formula to (shift f ∷ r ∷ []) ≡ operation to f (register r) 0
+  shifted : (r : Token) → formula to (shift f ∷ r ∷ []) ≡ operation to f (registerNamed r) 0
   unfolding formula same
   shifted r = go s
     where
-      go : {g : ℕ} → Shifted g → formula to (shift g ∷ r ∷ []) ≡ operation to g (register r) 0
+      go : {g : ℕ} → Shifted g → formula to (shift g ∷ r ∷ []) ≡ operation to g (registerNamed r) 0
       go left = refl
       go right = refl
 
-  pub shift-foreign : (u : Token) → ltb (register u) 8 ≡ false → (ys : List Token) → formula to (shift f ∷ u ∷ ys) ≡ Foreign
-  shift-foreign u r [] = shifted u ∙ operation-first to f (register u) 0 r
+  pub shift-foreign : (u : Token) → ltb (registerNamed u) 8 ≡ false → (ys : List Token) → formula to (shift f ∷ u ∷ ys) ≡ Foreign
+  shift-foreign u r [] = shifted u ∙ operation-first to f (registerNamed u) 0 r
   shift-foreign u r (y ∷ ys) = shift-more u y ys
 
   pub shift-register : to < 9 → (b : ℕ) → b < 8 → (ys : List Token) → formula to (shift f ∷ name b ∷ ys) ≡ only (Operation to f b 0) ys

@@ -1,11 +1,11 @@
 -- The parts of a line, from their tokens (01, Micro text and images).
-use Prim.Native.Nat.{ℕ, suc, _+_, _-_, _*_}
-use Prim.Native.Char.{code}
-use mathlib.Core.Bool.{cond, not, _&&_}
+use Prim.Native.Nat.{ℕ, suc}
+use mathlib.Core.Bool.{cond, _&&_}
 use mathlib.Core.List.{List, [], _∷_, _++_}
-use lib.Dec.{ltb, eqb}
-use Rattle.token.specs.Text.{bytes, same, _is_}
-use Rattle.token.specs.Tokens.{Token, digit}
+use lib.Dec.{ltb}
+use Rattle.token.specs.Tokens.{Token}
+use Rattle.text.specs.Text.{bytes, same, _is_}
+use Rattle.text.specs.Decimal.{fromDecimal}
 use Rattle.part.specs.declared.Part.{Part}
 use Rattle.part.specs.declared.Part.the-variants.{Operation, Transfer, Jump, Foreign}
 
@@ -13,25 +13,18 @@ use Rattle.part.specs.declared.Part.the-variants.{Operation, Transfer, J
 abbrev pub registers : List Token
 registers = bytes "cp" ∷ bytes "ac" ∷ bytes "pp" ∷ bytes "ri" ∷ bytes "rt" ∷ bytes "masc" ∷ bytes "rem" ∷ bytes "rdm" ∷ []
 
--- The place of t in a list, which is the list's length where t is not in it.
-unfoldable pub place : Token → List Token → ℕ
-place t [] = 0
-place t (x ∷ xs) = cond (same t x) 0 (suc (place t xs))
+-- The index of t in a list, which is the list's length where t is not in it.
+unfoldable pub index : Token → List Token → ℕ
+index t [] = 0
+index t (x ∷ xs) = cond (same t x) 0 (suc (index t xs))
 
 -- A register's number, or 8.
-unfoldable pub register : Token → ℕ
-register t = place t registers
+unfoldable pub registerNamed : Token → ℕ
+registerNamed t = index t registers
 
 -- Where an operation stores: a register's number, 8 for `alu`, or 9 where t is neither.
 unfoldable pub destination : Token → ℕ
-destination t = place t (registers ++ bytes "alu" ∷ [])
-
--- A number of one or two digits with no leading zero, or 100.
-unfoldable pub number : Token → ℕ
-number [] = 100
-number (a ∷ []) = cond (digit a) (a - code "0") 100
-number (a ∷ b ∷ []) = cond (digit a && digit b && not (eqb a (code "0"))) ((a - code "0") * 10 + (b - code "0")) 100
-number (a ∷ b ∷ c ∷ s) = 100
+destination t = index t (registers ++ bytes "alu" ∷ [])
 
 -- An operation that stores to a register or nowhere, from one or two registers.
 unfoldable pub operation : ℕ → ℕ → ℕ → ℕ → Part
@@ -40,15 +33,15 @@ operation to f a b = cond (ltb to 9 && ltb a 8 && ltb b 8) (Operation to f a b) 
 -- One of r, r+1, r-1, r+r, r-r, r^r, <<r, >>r.
 unfoldable pub formula : ℕ → List Token → Part
 formula to [] = Foreign
-formula to (r ∷ []) = operation to 0 (register r) 0
+formula to (r ∷ []) = operation to 0 (registerNamed r) 0
 formula to (o ∷ r ∷ []) =
-    cond (o is "<<") (operation to 6 (register r) 0)
-    (cond (o is ">>") (operation to 7 (register r) 0)
+    cond (o is "<<") (operation to 6 (registerNamed r) 0)
+    (cond (o is ">>") (operation to 7 (registerNamed r) 0)
     Foreign)
 formula to (r ∷ o ∷ q ∷ []) =
-    cond (o is "+") (cond (q is "1") (operation to 1 (register r) 0) (operation to 3 (register r) (register q)))
-    (cond (o is "-") (cond (q is "1") (operation to 2 (register r) 0) (operation to 4 (register r) (register q)))
-    (cond (o is "^") (operation to 5 (register r) (register q))
+    cond (o is "+") (cond (q is "1") (operation to 1 (registerNamed r) 0) (operation to 3 (registerNamed r) (registerNamed q)))
+    (cond (o is "-") (cond (q is "1") (operation to 2 (registerNamed r) 0) (operation to 4 (registerNamed r) (registerNamed q)))
+    (cond (o is "^") (operation to 5 (registerNamed r) (registerNamed q))
     Foreign))
 formula to (r ∷ o ∷ q ∷ x ∷ ts) = Foreign
 
@@ -77,7 +70,7 @@ test c t [] = Foreign
 test c t (g ∷ []) = Foreign
 test c t (g ∷ k ∷ []) =
     cond (t is "then" && g is "goto")
-    (cond (c is "n") (jump 1 (number k)) (cond (c is "z") (jump 2 (number k)) Foreign))
+    (cond (c is "n") (jump 1 (fromDecimal k)) (cond (c is "z") (jump 2 (fromDecimal k)) Foreign))
     Foreign
 test c t (g ∷ k ∷ x ∷ ts) = Foreign
 
@@ -85,7 +78,7 @@ test c t (g ∷ k ∷ x ∷ ts) = Foreign
 unfoldable pub part : List Token → Part
 part [] = Foreign
 part (t ∷ []) = cond (t is "rd") (Transfer 1 0) (cond (t is "wr") (Transfer 0 1) Foreign)
-part (t ∷ u ∷ []) = cond (t is "goto") (jump 3 (number u)) Foreign
+part (t ∷ u ∷ []) = cond (t is "goto") (jump 3 (fromDecimal u)) Foreign
 part (t ∷ u ∷ v ∷ ts) =
     cond (t is "if") (test u v ts)
     (cond (u is ":=") (formula (destination t) (bare (v ∷ ts)))

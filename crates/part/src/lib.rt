@@ -2,7 +2,7 @@
 ghost use mathlib.Core.Path.{_≡_};
 ghost use mathlib.Core.Bool.{cond};
 ghost use lib.Dec.{eqb};
-ghost use Rattle.part.specs.Place.{registerOf, destinationOf, numberOf, completed as completedBy, fromStart, fromValue, fromShift, fromFirst, fromSign, fromGoto, advance as advanceTo, finished as finishedAt};
+ghost use Rattle.part.specs.Code.Stage.{registerOf, destinationOf, completed as completedBy, fromStart, fromValue, fromShift, fromFirst, fromSign, fromGoto, advance as advanceTo, finished as finishedAt};
 
 // A part of a line. `to` is a register's number, or 8 where nothing is stored.
 pub enum Part {
@@ -13,7 +13,7 @@ pub enum Part {
 }
 
 // How far a part has been read. `bracket` says that an opening one wants closing.
-pub enum Place {
+pub enum Stage {
     Start,
     Named {
         to: u32,
@@ -95,7 +95,7 @@ const OPEN: u64 = 0x128;
 const CLOSE: u64 = 0x129;
 
 // A register's number, or 8.
-fn register(token: u64) -> u32
+fn register_named(token: u64) -> u32
     ensures { λ r. ⌜ r ≡ registerOf token ⌝ }
 {
     match token {
@@ -115,7 +115,7 @@ fn register(token: u64) -> u32
 fn destination(token: u64) -> u32
     ensures { λ r. ⌜ r ≡ destinationOf token ⌝ }
 {
-    let r = register(token);
+    let r = register_named(token);
     if r < 8 {
         return r;
     }
@@ -125,89 +125,74 @@ fn destination(token: u64) -> u32
     9
 }
 
-// A number of one or two digits with no leading zero, or 100.
-pub fn number(token: u64) -> u32
-    ensures { λ r. ⌜ r ≡ numberOf token ⌝ }
-{
-    if (0x130 <= token) & (token <= 0x139) {
-        return (token - 0x130) as u32;
-    }
-    let high = token / 256;
-    let low = token % 256;
-    if (0x131 <= high) & (high <= 0x139) & ((48 <= low) & (low <= 57)) {
-        return ((high - 0x130) * 10 + (low - 48)) as u32;
-    }
-    100
-}
-
-fn completed(bracket: bool, part: Part) -> Place
+fn completed(bracket: bool, part: Part) -> Stage
     ensures { λ r. ⌜ r ≡ completedBy bracket part ⌝ }
 {
     if bracket {
-        return Place::Closing { part };
+        return Stage::Closing { part };
     }
-    Place::Whole { part }
+    Stage::Whole { part }
 }
 
-fn from_start(t: u64) -> Place
+fn from_start(t: u64) -> Stage
     ensures { λ r. ⌜ r ≡ fromStart t ⌝ }
 {
     if t == RD {
-        return Place::Whole {
+        return Stage::Whole {
             part: Part::Transfer { rd: 1, wr: 0 },
         };
     }
     if t == WR {
-        return Place::Whole {
+        return Stage::Whole {
             part: Part::Transfer { rd: 0, wr: 1 },
         };
     }
     if t == GOTO {
-        return Place::Goto { sq: 3 };
+        return Stage::Goto { sq: 3 };
     }
     if t == IF {
-        return Place::If;
+        return Stage::If;
     }
     let to = destination(t);
     if to < 9 {
-        return Place::Named { to };
+        return Stage::Named { to };
     }
-    Place::Wrong
+    Stage::Wrong
 }
 
 // One of <<r, >>r, r and what begins with r.
-fn from_value(bracket: bool, to: u32, t: u64) -> Place
+fn from_value(bracket: bool, to: u32, t: u64) -> Stage
     ensures { λ r. ⌜ r ≡ fromValue bracket to t ⌝ }
 {
     if t == LEFT {
-        return Place::Shift { bracket, to, f: 6 };
+        return Stage::Shift { bracket, to, f: 6 };
     }
     if t == RIGHT {
-        return Place::Shift { bracket, to, f: 7 };
+        return Stage::Shift { bracket, to, f: 7 };
     }
-    let a = register(t);
+    let a = register_named(t);
     if a < 8 {
-        return Place::First { bracket, to, a };
+        return Stage::First { bracket, to, a };
     }
-    Place::Wrong
+    Stage::Wrong
 }
 
-fn from_shift(bracket: bool, to: u32, f: u32, t: u64) -> Place
+fn from_shift(bracket: bool, to: u32, f: u32, t: u64) -> Stage
     ensures { λ r. ⌜ r ≡ fromShift bracket to f t ⌝ }
 {
-    let a = register(t);
+    let a = register_named(t);
     if a < 8 {
         return completed(bracket, Part::Operation { to, f, a, b: 0 });
     }
-    Place::Wrong
+    Stage::Wrong
 }
 
 // Behind the first register: a sign, or the bracket that closes.
-fn from_first(bracket: bool, to: u32, a: u32, t: u64) -> Place
+fn from_first(bracket: bool, to: u32, a: u32, t: u64) -> Stage
     ensures { λ r. ⌜ r ≡ fromFirst bracket to a t ⌝ }
 {
     if t == PLUS {
-        return Place::Sign {
+        return Stage::Sign {
             bracket,
             to,
             f: 3,
@@ -215,7 +200,7 @@ fn from_first(bracket: bool, to: u32, a: u32, t: u64) -> Place
         };
     }
     if t == MINUS {
-        return Place::Sign {
+        return Stage::Sign {
             bracket,
             to,
             f: 4,
@@ -223,7 +208,7 @@ fn from_first(bracket: bool, to: u32, a: u32, t: u64) -> Place
         };
     }
     if t == AND {
-        return Place::Sign {
+        return Stage::Sign {
             bracket,
             to,
             f: 5,
@@ -231,18 +216,18 @@ fn from_first(bracket: bool, to: u32, a: u32, t: u64) -> Place
         };
     }
     if bracket & (t == CLOSE) {
-        return Place::Whole {
+        return Stage::Whole {
             part: Part::Operation { to, f: 0, a, b: 0 },
         };
     }
-    Place::Wrong
+    Stage::Wrong
 }
 
 // Behind a sign: a register, or 1.
-fn from_sign(bracket: bool, to: u32, f: u32, a: u32, t: u64) -> Place
+fn from_sign(bracket: bool, to: u32, f: u32, a: u32, t: u64) -> Stage
     ensures { λ r. ⌜ r ≡ fromSign bracket to f a t ⌝ }
 {
-    let b = register(t);
+    let b = register_named(t);
     if b < 8 {
         return completed(bracket, Part::Operation { to, f, a, b });
     }
@@ -252,74 +237,74 @@ fn from_sign(bracket: bool, to: u32, f: u32, a: u32, t: u64) -> Place
     if (t == ONE) & (f == 4) {
         return completed(bracket, Part::Operation { to, f: 2, a, b: 0 });
     }
-    Place::Wrong
+    Stage::Wrong
 }
 
-fn from_goto(sq: u32, t: u64) -> Place
+fn from_goto(sq: u32, t: u64) -> Stage
     ensures { λ r. ⌜ r ≡ fromGoto sq t ⌝ }
 {
-    let end = number(t);
+    let end = token::decimal(t);
     if end < 100 {
-        return Place::Whole {
+        return Stage::Whole {
             part: Part::Jump { sq, end },
         };
     }
-    Place::Wrong
+    Stage::Wrong
 }
 
-// The place where `then` stands if the token is `wanted`.
-fn expect(t: u64, wanted: u64, then: Place) -> Place
-    ensures { λ r. ⌜ r ≡ cond (eqb t wanted) then Place.Wrong ⌝ }
+// The stage `then` if the token is `wanted`.
+fn expect(t: u64, wanted: u64, then: Stage) -> Stage
+    ensures { λ r. ⌜ r ≡ cond (eqb t wanted) then Stage.Wrong ⌝ }
 {
     if t == wanted {
         return then;
     }
-    Place::Wrong
+    Stage::Wrong
 }
 
-fn from_if(t: u64) -> Place
-    ensures { λ r. ⌜ r ≡ advanceTo Place.If t ⌝ }
+fn from_if(t: u64) -> Stage
+    ensures { λ r. ⌜ r ≡ advanceTo Stage.If t ⌝ }
 {
     if t == N {
-        return Place::Tested { sq: 1 };
+        return Stage::Tested { sq: 1 };
     }
-    expect(t, Z, Place::Tested { sq: 2 })
+    expect(t, Z, Stage::Tested { sq: 2 })
 }
 
-fn from_assigned(to: u32, t: u64) -> Place
-    ensures { λ r. ⌜ r ≡ advanceTo (Place.Assigned to) t ⌝ }
+fn from_assigned(to: u32, t: u64) -> Stage
+    ensures { λ r. ⌜ r ≡ advanceTo (Stage.Assigned to) t ⌝ }
 {
     if t == OPEN {
-        return Place::Opened { to };
+        return Stage::Opened { to };
     }
     from_value(false, to, t)
 }
 
 // How a token moves a part along.
-pub fn advance(place: Place, t: u64) -> Place
-    ensures { λ r. ⌜ r ≡ advanceTo place t ⌝ }
+pub fn advance(stage: Stage, t: u64) -> Stage
+    ensures { λ r. ⌜ r ≡ advanceTo stage t ⌝ }
 {
-    match place {
-        Place::Start => from_start(t),
-        Place::Named { to } => expect(t, ASSIGN, Place::Assigned { to }),
-        Place::Assigned { to } => from_assigned(to, t),
-        Place::Opened { to } => from_value(true, to, t),
-        Place::Shift { bracket, to, f } => from_shift(bracket, to, f, t),
-        Place::First { bracket, to, a } => from_first(bracket, to, a, t),
-        Place::Sign { bracket, to, f, a } => from_sign(bracket, to, f, a, t),
-        Place::Closing { part } => expect(t, CLOSE, Place::Whole { part }),
-        Place::If => from_if(t),
-        Place::Tested { sq } => expect(t, THEN, Place::Then { sq }),
-        Place::Then { sq } => expect(t, GOTO, Place::Goto { sq }),
-        Place::Goto { sq } => from_goto(sq, t),
-        Place::Whole { part: _ } => Place::Wrong,
-        Place::Wrong => Place::Wrong,
+    match stage {
+        Stage::Start => from_start(t),
+        Stage::Named { to } => expect(t, ASSIGN, Stage::Assigned { to }),
+        Stage::Assigned { to } => from_assigned(to, t),
+        Stage::Opened { to } => from_value(true, to, t),
+        Stage::Shift { bracket, to, f } => from_shift(bracket, to, f, t),
+        Stage::First { bracket, to, a } => from_first(bracket, to, a, t),
+        Stage::Sign { bracket, to, f, a } => from_sign(bracket, to, f, a, t),
+        Stage::Closing { part } => expect(t, CLOSE, Stage::Whole { part }),
+        Stage::If => from_if(t),
+        Stage::Tested { sq } => expect(t, THEN, Stage::Then { sq }),
+        Stage::Then { sq } => expect(t, GOTO, Stage::Goto { sq }),
+        Stage::Goto { sq } => from_goto(sq, t),
+        Stage::Whole { part: _ } => Stage::Wrong,
+        Stage::Wrong => Stage::Wrong,
     }
 }
 
 // A register alone is a formula, unless a bracket is open.
 fn alone(bracket: bool, to: u32, a: u32) -> Part
-    ensures { λ r. ⌜ r ≡ finishedAt (Place.First bracket to a) ⌝ }
+    ensures { λ r. ⌜ r ≡ finishedAt (Stage.First bracket to a) ⌝ }
 {
     if bracket {
         return Part::Foreign;
@@ -328,32 +313,32 @@ fn alone(bracket: bool, to: u32, a: u32) -> Part
 }
 
 // The part that ends here.
-pub fn finished(place: Place) -> Part
-    ensures { λ r. ⌜ r ≡ finishedAt place ⌝ }
+pub fn finished(stage: Stage) -> Part
+    ensures { λ r. ⌜ r ≡ finishedAt stage ⌝ }
 {
-    match place {
-        Place::Start => Part::Foreign,
-        Place::Named { to: _ } => Part::Foreign,
-        Place::Assigned { to: _ } => Part::Foreign,
-        Place::Opened { to: _ } => Part::Foreign,
-        Place::Shift {
+    match stage {
+        Stage::Start => Part::Foreign,
+        Stage::Named { to: _ } => Part::Foreign,
+        Stage::Assigned { to: _ } => Part::Foreign,
+        Stage::Opened { to: _ } => Part::Foreign,
+        Stage::Shift {
             bracket: _,
             to: _,
             f: _,
         } => Part::Foreign,
-        Place::First { bracket, to, a } => alone(bracket, to, a),
-        Place::Sign {
+        Stage::First { bracket, to, a } => alone(bracket, to, a),
+        Stage::Sign {
             bracket: _,
             to: _,
             f: _,
             a: _,
         } => Part::Foreign,
-        Place::Closing { part: _ } => Part::Foreign,
-        Place::If => Part::Foreign,
-        Place::Tested { sq: _ } => Part::Foreign,
-        Place::Then { sq: _ } => Part::Foreign,
-        Place::Goto { sq: _ } => Part::Foreign,
-        Place::Whole { part } => part,
-        Place::Wrong => Part::Foreign,
+        Stage::Closing { part: _ } => Part::Foreign,
+        Stage::If => Part::Foreign,
+        Stage::Tested { sq: _ } => Part::Foreign,
+        Stage::Then { sq: _ } => Part::Foreign,
+        Stage::Goto { sq: _ } => Part::Foreign,
+        Stage::Whole { part } => part,
+        Stage::Wrong => Part::Foreign,
     }
 }

@@ -6,12 +6,13 @@ use mathlib.Core.List.{List, [], _∷_, map}
 use lib.ListN.{take, drop, replicate}
 use Rattle.word.specs.Number.{joined}
 use Rattle.microword.specs.Microword.{wordOf}
-use Rattle.token.specs.Text.{same}
-use Rattle.token.specs.Tokens.{every, oneToken, begun, under, ended, going, tokensAfter}
-use Rattle.part.specs.Grammar.{place, register, destination, number, operation, formula, last, front, bare, jump, test, part}
+use Rattle.token.specs.Tokens.{every, oneToken, under, ended, going, tokensAfter, startedBy}
+use Rattle.part.specs.Grammar.{destination, operation, formula, last, front, bare, jump, test, part, index, registerNamed}
 use Rattle.microtext.specs.Line.{cut, divided, lastPart, parts, someForeign, add, given, clash, settled, meaning, behindNumber, numbered, line}
 use Rattle.microtext.specs.declared.Meaning.{Meaning}
 use Rattle.microtext.specs.declared.Meaning.the-variants.{Word}
+use Rattle.text.specs.Text.{same}
+use Rattle.text.specs.Decimal.{fromDecimal}
 use Rattle.printed.specs.Printed.{printed}
 use Rattle.printed.specs.Figure.{figure}
 
@@ -21,5 +22,5 @@ meanings k [] = []
 meanings k (l ∷ ls) = line k l ∷ meanings (suc k) ls
 
 pub checked : (meanings 0 figure ≡ map Word (take 55 printed)) × (drop 55 printed ≡ replicate 9 0)
-unfolding meanings figure printed line numbered behindNumber meaning settled clash given add someForeign parts lastPart divided cut part test jump bare front last formula operation number destination register place tokensAfter going ended under begun oneToken every same wordOf joined
+unfolding meanings figure printed line numbered behindNumber meaning settled clash given add someForeign parts lastPart divided cut part test jump bare front last formula operation fromDecimal destination registerNamed index tokensAfter going ended under startedBy oneToken every same wordOf joined
 checked = (refl, refl)

@@ -2,7 +2,7 @@
 -- a semicolon (01, Instructions).
 use Prim.Native.Nat.{ℕ}
 use mathlib.Core.List.{List, [], _∷_}
-use Rattle.token.specs.Text.{bytes}
+use Rattle.text.specs.Text.{bytes}
 
 unfoldable pub figure : List (List ℕ)
 figure =

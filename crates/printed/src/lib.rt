@@ -1,8 +1,6 @@
 // The printed microprogram, Figure 5.10, as a constant control store.
 ghost use mathlib.Core.Path.{_≡_};
-ghost use lib.ListN.{getD};
 ghost use Rattle.printed.specs.Printed.{printed};
-use word::Line;
 
 const PRINTED: [u32; 64] = [
     107008,
@@ -76,12 +74,4 @@ pub fn store() -> [u32; 64]
     ensures { λ r. ⌜ r ≡ printed ⌝ }
 {
     PRINTED
-}
-
-// The control word of a line.
-pub fn word_of_line(line: Line) -> u32
-    ensures { λ r. ⌜ r ≡ getD printed (line .0) 0 ⌝ }
-{
-    let k = line.0 as usize;
-    if k < 64 { PRINTED[k] } else { 0 }
 }

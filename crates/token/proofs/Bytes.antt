@@ -5,8 +5,8 @@ use mathlib.Core.Bool.{Bool, true, false, cond}
 use mathlib.Core.List.{List, [], _∷_, _++_}
 use lib.Dec.{eqb}
 use lib.ListN.{getD, drop}
-use Rattle.token.specs.Text.{before, lineAt}
-use Rattle.token.specs.Tokens.{Token, oneToken, begun, under, ended, going, tokensAfter, tokens}
+use Rattle.text.specs.Text.{before, lineAt}
+use Rattle.token.specs.Tokens.{Token, oneToken, under, ended, going, tokensAfter, tokens, startedBy}
 
 -- All of them are bytes.
 abbrev pub Bytes : List ℕ → Type 0
@@ -25,9 +25,9 @@ bytes-append : (u v : List ℕ) → Bytes u → Bytes v → Bytes (u ++ v)
 bytes-append [] v a b = b
 bytes-append (c ∷ u) v a b = (a .0, bytes-append u v (a .1) b)
 
-begun-bytes : (c : ℕ) → c < 256 → Bytes (begun c)
-unfolding begun
-begun-bytes c h = go (eqb c (code " "))
+started-bytes : (c : ℕ) → c < 256 → Bytes (startedBy c)
+unfolding startedBy
+started-bytes c h = go (eqb c (code " "))
   where
     go : (b : Bool) → Bytes (cond b [] (c ∷ []))
     go true = tt
@@ -37,9 +37,9 @@ under-bytes : (t : List ℕ) (c : ℕ) → Bytes t → c < 256 → Bytes (under 
 unfolding under
 under-bytes t c b h = go (oneToken (t ++ c ∷ []))
   where
-    go : (j : Bool) → Bytes (cond j (t ++ c ∷ []) (begun c))
+    go : (j : Bool) → Bytes (cond j (t ++ c ∷ []) (startedBy c))
     go true = bytes-append t (c ∷ []) b (h, tt)
-    go false = begun-bytes c h
+    go false = started-bytes c h
 
 ended-bytes : (t : List ℕ) (ts : List Token) → Bytes t → AllBytes ts → AllBytes (ended t ts)
 unfolding ended

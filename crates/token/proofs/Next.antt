@@ -1,21 +1,23 @@
 -- What the equation of `next_token` says to one who takes a line's tokens in turn: the number of the next one, with those behind it, are
 -- the line's, and the line ends where it did.
-use Prim.Native.Nat.{ℕ, zero, suc, _+_, _-_, _*_, _^_, _≤_, _<_}
+use Prim.Native.Nat.{ℕ, _+_, _-_, _*_, _^_, _≤_, _<_}
 use mathlib.Core.Path.{_≡_, refl, sym, ap, subst, _∙_}
 use mathlib.Core.Bool.{Bool, true, false, cond}
 use mathlib.Core.List.{List, [], _∷_, map}
 use native.Mathlib.Omega.{arith}
 use borrow.Author.Tests.{ne-eqb}
 use lib.Dec.{ltb, eqb}
-use lib.ListN.{length, drop, drop-of-length-le, length-drop}
+use lib.ListN.{length, take, drop, drop-of-length-le, length-drop}
 use lib.Seq.{drop-drop}
-use Rattle.token.specs.Text.{before, lineAt, endAt}
+use Rattle.text.specs.Text.{before, lineAt, endAt, span}
+use Rattle.text.proofs.Lines.{line-behind, line-within, line-part}
 use Rattle.token.specs.Tokens.{Token, ended, tokensAfter, tokens}
-use Rattle.token.specs.Next.{grown, packedAfter, packed, codesAt, first, spaces, scanned}
+use Rattle.token.specs.Next.{grown, packedAfter, packed, first, spaces, scanned}
 use Rattle.token.specs.declared.Scanned.{Scanned}
 use Rattle.token.proofs.Split.{Split, split}
+use Rattle.token.specs.Code.Numbers.{codesAt}
 
--- The next token of a line and the place behind it; 1 and the line's end where there is none.
+-- The next token of a line and what is behind it; 1 and the line's end where there is none.
 pub record NextToken (text : List ℕ) (at : ℕ) (r : Scanned) : Type 0 where
   pub codes : codesAt text at ≡ cond (eqb (r .token) 1) [] (r .token ∷ codesAt text (r .behind))
   pub line-end : endAt text (r .behind) ≡ endAt text at
@@ -37,27 +39,6 @@ packed-least n (c ∷ t) = omega (arith, grown-more n c, packed-least (grown n c
 above : (c : ℕ) (t : List ℕ) → packed (c ∷ t) ≡ 1 → ⊥
 above c t e = omega (arith, packed-least (256 + c) t)
 
--- A line goes on behind some of its bytes, and is no longer than the text.
-line-behind : (n : ℕ) (s : List ℕ) → n ≤ length (before 10 s) → before 10 (drop n s) ≡ drop n (before 10 s)
-unfolding before
-line-behind zero s h = refl
-line-behind (suc n) [] h = refl
-line-behind (suc n) (c ∷ s) h = go (eqb c 10) h (line-behind n s)
-  where
-    go : (b : Bool) → suc n ≤ length (cond b [] (c ∷ before 10 s)) → (n ≤ length (before 10 s) → before 10 (drop n s) ≡ drop n (before 10 s))
-        → before 10 (drop n s) ≡ drop (suc n) (cond b [] (c ∷ before 10 s))
-    go true l f = absurd (omega arith)
-    go false l f = f (omega arith)
-
-line-within : (s : List ℕ) → length (before 10 s) ≤ length s
-unfolding before
-line-within [] = omega arith
-line-within (c ∷ s) = go (eqb c 10) (line-within s)
-  where
-    go : (b : Bool) → length (before 10 s) ≤ length s → length (cond b [] (c ∷ before 10 s)) ≤ suc (length s)
-    go true l = omega arith
-    go false l = omega arith
-
 -- The law for a line whose first token is t, behind k spaces.
 module _ (text : List ℕ) (at k : ℕ) (t : Token) (s : Split (lineAt text at) t k) where
   line-behind-token : lineAt text (at + k + length t) ≡ drop (k + length t) (lineAt text at)
@@ -71,7 +52,36 @@ module _ (text : List ℕ) (at k : ℕ) (t : Token) (s : Split (lineAt text at) 
   inside : 1 ≤ length t → at + k + length t ≤ length text
   inside h = omega (arith, s .within, line-within (drop at text), length-drop at text)
 
-holds : (text : List ℕ) (at k : ℕ) (t : Token) → Split (lineAt text at) t k → NextToken text at (record { token = packed t; behind = at + k + length t })
+-- The same law with the token as its bytes, which stand in the text from its start on; no bytes where there is none.
+pub record NextBytes (text : List ℕ) (at : ℕ) (r : Scanned) : Type 0 where
+  pub tokens-at : tokens (lineAt text at) ≡ ended (span text (r .start) (r .behind)) (tokens (lineAt text (r .behind)))
+  pub none : span text (r .start) (r .behind) ≡ [] → tokens (lineAt text at) ≡ []
+  pub number : r .token ≡ packed (span text (r .start) (r .behind))
+  pub in-order : (r .start ≤ r .behind) × (at ≤ r .start)
+
+pub next-bytes : (text : List ℕ) (at : ℕ) (r : Scanned) → r ≡ scanned text at → NextBytes text at r
+unfolding scanned ended tokensAfter
+next-bytes text at r e = subst (NextBytes text at) (sym e) (go (first (tokens (lineAt text at))) (spaces (lineAt text at)) (split (lineAt text at)))
+  where
+    empty : (t : Token) (k : ℕ) → Split (lineAt text at) t k → t ≡ [] → tokens (lineAt text at) ≡ []
+    empty [] k s z =
+        let h : length (lineAt text at) ≤ k + 0 = omega (arith, s .none refl) in
+        s .all ∙ ap tokens (drop-of-length-le (lineAt text at) h)
+    empty (x ∷ u) k s z = absurd (omega (arith, ap length z))
+
+    go : (t : Token) (k : ℕ) → Split (lineAt text at) t k → NextBytes text at (record { token = packed t; start = at + k; behind = at + k + length t })
+    go t k s =
+        let p : at + k + length t - (at + k) ≡ length t = omega arith in
+        let b : t ≡ span text (at + k) (at + k + length t) =
+        s .bytes ∙ line-part (length t) k (drop at text) (s .within) ∙ ap (take (length t)) (drop-drop k at text) ∙ ap (λ (n : ℕ). take n (drop (at + k) text)) (sym p) in
+        record {
+          tokens-at = s .all ∙ ap (λ (u : List ℕ). ended t (tokens u)) (sym (line-behind-token text at k t s)) ∙ ap (λ (u : Token). ended u (tokens (lineAt text (at + k + length t)))) b;
+          none = λ z. empty t k s (b ∙ z);
+          number = ap packed b;
+          in-order = (omega arith, omega arith);
+        }
+
+holds : (text : List ℕ) (at k : ℕ) (t : Token) → Split (lineAt text at) t k → NextToken text at (record { token = packed t; start = at + k; behind = at + k + length t })
 unfolding ended tokensAfter
 holds text at k [] s =
     let h : length (lineAt text at) ≤ k + 0 = omega (arith, s .none refl) in

@@ -7,25 +7,12 @@ use mathlib.Core.List.{List, [], _∷_, _++_, reverse, reverseAux, reverse-rever
 use native.Mathlib.Omega.{arith}
 use borrow.Author.Tests.{eqb-true, ltb-true, ltb-false, eq-eqb, ne-eqb}
 use lib.Dec.{ltb, eqb}
-use Rattle.token.specs.Text.{same}
-use Rattle.token.specs.Next.{numeral, grown, packedAfter, packed}
+use Rattle.text.specs.Text.{same}
+use Rattle.text.proofs.Same.{same-equal, same-itself}
+use Rattle.token.specs.Next.{grown, packedAfter, packed}
 use Rattle.token.proofs.Bytes.{Bytes}
 use Rattle.word.proofs.Tests.{both}
-
--- Texts that are the same are equal.
-pub same-equal : (u v : List ℕ) → same u v ≡ true → u ≡ v
-unfolding same
-same-equal [] [] e = refl
-same-equal [] (y ∷ v) e = absurd (false≢true e)
-same-equal (x ∷ u) [] e = absurd (false≢true e)
-same-equal (x ∷ u) (y ∷ v) e =
-    let b = both (eqb x y) (same u v) e in
-    ap₂ (λ (a : ℕ) (t : List ℕ). a ∷ t) (eqb-true x y (b .0)) (same-equal u v (b .1))
-
-pub same-itself : (u : List ℕ) → same u u ≡ true
-unfolding same
-same-itself [] = refl
-same-itself (x ∷ u) = rw (eq-eqb x x refl, same-itself u)
+use Rattle.token.specs.Code.Numbers.{numeral}
 
 bytes-reverse : (t r : List ℕ) → Bytes t → Bytes r → Bytes (reverseAux t r)
 bytes-reverse [] r a b = b

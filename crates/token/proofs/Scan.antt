@@ -1,66 +1,47 @@
 -- Scanning: the bytes of the token under way, with nothing of the line lost, up to the token's end.
-use Prim.Native.Nat.{ℕ, suc, _+_, _*_, _^_, _≤_, _<_}
+use Prim.Native.Nat.{ℕ, suc, _+_, _*_, _^_, _<_}
 use Prim.Native.Char.{code}
 use mathlib.Core.Path.{_≡_, refl, sym, ap, _∙_}
-use mathlib.Core.Bool.{Bool, true, false, _&&_, _||_, and-true, and-false, and-assoc, or-false, true≢false}
+use mathlib.Core.Bool.{Bool, true, false, _||_, and-false, true≢false}
 use mathlib.Core.List.{List, [], _∷_, _++_}
-use native.Mathlib.Numerals.{add-one}
 use native.Mathlib.Omega.{arith}
-use borrow.Author.Tests.{eqb-true, eqb-false, ltb-true, ltb-false, leb-true, eq-eqb, ne-eqb, lt-ltb, lt-leb}
-use lib.Dec.{leb, ltb, eqb}
-use lib.ListN.{length, getD, length-append, drop-of-length-le}
-use lib.Seq.{drop-cons}
-use Rattle.token.specs.Text.{same, before, lineAt}
-use Rattle.token.specs.Tokens.{Token, letter, digit, every, oneToken, begun, under, ended, going, tokensAfter, tokens}
-use Rattle.token.specs.Next.{numeral, spelt, grown, packed, first, spaces, scanned, BeginsSign}
-use Rattle.token.proofs.Packed.{packed-more, short, known}
+use borrow.Author.Tests.{eqb-true, eqb-false, ltb-true, ltb-false, ne-eqb, lt-ltb}
+use lib.Dec.{ltb, eqb}
+use lib.ListN.{length, getD, length-append}
+use Rattle.text.specs.Text.{same, lineAt}
+use Rattle.text.proofs.Lines.{text-ends, line-ends, line-goes-on}
+use Rattle.token.specs.Tokens.{Token, every, oneToken, under, ended, going, tokensAfter, tokens, startedBy}
+use Rattle.token.specs.Next.{packed, first, spaces, scanned}
+use Rattle.token.proofs.Packed.{short, known}
 use Rattle.token.proofs.Split.{tokens-first}
-use Rattle.word.proofs.Tests.{both}
-
-pub every-more : (p : ℕ → Bool) (t : List ℕ) (c : ℕ) → every p (t ++ c ∷ []) ≡ (every p t && p c)
-unfolding every
-every-more p [] c = and-true (p c)
-every-more p (x ∷ t) c = rw (every-more p t c) (sym (and-assoc (p x) (every p t) (p c)))
-
--- At the end of a line, and before a byte of it.
-module _ (text : List ℕ) (i : ℕ) where
-  pub text-ends : length text ≤ i → lineAt text i ≡ []
-  unfolding before
-  text-ends h = rw (drop-of-length-le text h)
-
-  pub line-ends : i < length text → getD text i 0 ≡ 10 → lineAt text i ≡ []
-  unfolding before
-  line-ends h e = rw (drop-cons text i 0 h, eq-eqb (getD text i 0) 10 e)
-
-  line-goes-on : i < length text → (getD text i 0 ≡ 10 → ⊥) → lineAt text i ≡ getD text i 0 ∷ lineAt text (i + 1)
-  unfolding before
-  line-goes-on h n = rw (add-one, drop-cons text i 0 h, ne-eqb (getD text i 0) 10 n)
+use Rattle.token.specs.Code.Numbers.{numeral, BeginsSign, codeOf}
 
 -- What is scanned where the line's tokens are known.
-found : (text : List ℕ) (at n k behind : ℕ) (t : Token) → n ≡ packed t → first (tokens (lineAt text at)) ≡ t → spaces (lineAt text at) ≡ k
-    → behind ≡ at + k + length t → record { token = n; behind = behind } ≡ scanned text at
+found : (text : List ℕ) (at n k start behind : ℕ) (t : Token) → n ≡ packed t → first (tokens (lineAt text at)) ≡ t → spaces (lineAt text at) ≡ k
+    → start ≡ at + k → behind ≡ at + k + length t → record { token = n; start = start; behind = behind } ≡ scanned text at
 unfolding scanned
-found text at n k behind t e f s b = rw (f, s, e, b)
+found text at n k start behind t e f s a b = rw (f, s, e, a, b)
 
 -- A space before a token, and the end of the line.
 module _ (text : List ℕ) (at : ℕ) where
   pub one-space : at < length text → getD text at 0 ≡ code " " → scanned text (at + 1) ≡ scanned text at
-  unfolding scanned begun spaces
+  unfolding scanned startedBy spaces
   one-space h e =
       let s : List ℕ = lineAt text (at + 1) in
       let p : lineAt text at ≡ code " " ∷ s = line-goes-on text at h (λ z. omega arith) ∙ ap (λ (c : ℕ). c ∷ s) e in
       let t : Token = first (tokens s) in
-      found text at (packed t) (suc (spaces s)) (at + 1 + spaces s + length t) t refl (ap first (ap tokens p ∙ tokens-first (code " ") s)) (ap spaces p) (omega arith)
+      found text at (packed t) (suc (spaces s)) (at + 1 + spaces s) (at + 1 + spaces s + length t) t refl (ap first (ap tokens p ∙ tokens-first (code " ") s)) (ap spaces p)
+      (omega arith) (omega arith)
 
-  pub no-token : lineAt text at ≡ [] → record { token = 1; behind = at } ≡ scanned text at
+  pub no-token : lineAt text at ≡ [] → record { token = 1; start = at; behind = at } ≡ scanned text at
   unfolding first spaces tokensAfter ended
-  no-token e = found text at 1 0 at [] refl (rw e) (rw e) (omega arith)
+  no-token e = found text at 1 0 at at [] refl (rw e) (rw e) (omega arith) (omega arith)
 
 -- What the scanning of the token t from `at` holds at i.
 pub record Along (text : List ℕ) (at : ℕ) (t : List ℕ) (i : ℕ) : Type 0 where
   pub kept : tokensAfter t (lineAt text i) ≡ tokens (lineAt text at)
   pub no-space : spaces (lineAt text at) ≡ 0
-  pub place : i ≡ at + length t
+  pub here : i ≡ at + length t
 
 -- Its first byte, and one byte more.
 module _ (text : List ℕ) (i c : ℕ) (h : i < length text) (q : c ≡ getD text i 0) (n : c ≡ 10 → ⊥) where
@@ -68,12 +49,12 @@ module _ (text : List ℕ) (i c : ℕ) (h : i < length text) (q : c ≡ getD tex
   line = line-goes-on text i h (λ z. n (q ∙ z)) ∙ ap (λ (x : ℕ). x ∷ lineAt text (i + 1)) (sym q)
 
   pub along-first : (c ≡ code " " → ⊥) → Along text i (c ∷ []) (i + 1)
-  unfolding begun spaces
+  unfolding startedBy spaces
   along-first s =
       record {
         kept = sym (ap tokens line ∙ tokens-first c (lineAt text (i + 1)) ∙ rw (ne-eqb c (code " ") s));
         no-space = rw (line, ne-eqb c (code " ") s);
-        place = refl;
+        here = refl;
       }
 
   pub along-more : (at : ℕ) (t : List ℕ) → Along text at t i → oneToken (t ++ c ∷ []) ≡ true → Along text at (t ++ c ∷ []) (i + 1)
@@ -82,7 +63,7 @@ module _ (text : List ℕ) (i c : ℕ) (h : i < length text) (q : c ≡ getD tex
       record {
         kept = sym (ap (tokensAfter t) line ∙ rw o) ∙ a .kept;
         no-space = a .no-space;
-        place = omega (arith, a .place, length-append t (c ∷ []));
+        here = omega (arith, a .here, length-append t (c ∷ []));
       }
 
 -- The token ends where the next byte, if there is one, does not go on with it.
@@ -99,85 +80,14 @@ module _ (text : List ℕ) (at x : ℕ) (t : List ℕ) (i : ℕ) (a : Along text
           let h : i < length text = ltb-true i (length text) p in
           rw (line-goes-on text i h (eqb-false (getD text i 0) 10 q), tokens-first (getD text i 0) (lineAt text (i + 1))) (rw (apart h))
 
-  pub token-ends : (token : ℕ) → token ≡ packed (x ∷ t) → record { token = token; behind = i } ≡ scanned text at
+  pub token-ends : (token : ℕ) → token ≡ packed (x ∷ t) → record { token = token; start = at; behind = i } ≡ scanned text at
   unfolding first
-  token-ends token e = found text at token 0 i (x ∷ t) e (ap first (sym (a .kept) ∙ ends)) (a .no-space) (omega (arith, a .place))
-
--- A class of bytes whose runs are tokens: a token that begins in it is a run of it.
-pub record Class (p : ℕ → Bool) : Type 0 where
-  pub runs : (x : ℕ) (t : List ℕ) → p x ≡ true → oneToken (x ∷ t) ≡ every p (x ∷ t)
-  pub no-space : p (code " ") ≡ false
-  pub no-end : p 10 ≡ false
-
-pub letters : Class letter
-unfolding oneToken every same
-letters = record { runs = runs; no-space = refl; no-end = refl }
-  where
-    runs : (x : ℕ) (t : List ℕ) → letter x ≡ true → oneToken (x ∷ t) ≡ every letter (x ∷ t)
-    runs x t e =
-        let h : 97 ≤ x = leb-true 97 x (both (leb 97 x) (leb x 122) e .0) in
-        simp (lt-leb x 57 (omega arith), ne-eqb x 58 (λ z. omega arith), ne-eqb x 60 (λ z. omega arith), ne-eqb x 62 (λ z. omega arith), and-false, or-false)
-
-pub digits : Class digit
-unfolding oneToken every same
-digits = record { runs = runs; no-space = refl; no-end = refl }
-  where
-    runs : (x : ℕ) (t : List ℕ) → digit x ≡ true → oneToken (x ∷ t) ≡ every digit (x ∷ t)
-    runs x t e =
-        let h : x ≤ 57 = leb-true x 57 (both (leb 48 x) (leb x 57) e .1) in
-        simp (lt-leb 97 x (omega arith), ne-eqb x 58 (λ z. omega arith), ne-eqb x 60 (λ z. omega arith), ne-eqb x 62 (λ z. omega arith), or-false)
-
--- What the scanning of a run from `at` holds at i.
-pub record Run (p : ℕ → Bool) (text : List ℕ) (at token i : ℕ) : Type 0 where
-  pub first : ℕ
-  pub rest : List ℕ
-  pub all : every p (first ∷ rest) ≡ true
-  pub number : token ≡ packed (first ∷ rest)
-  pub small : token < 2 ^ 41
-  pub along : Along text at (first ∷ rest) i
-
-module _ (p : ℕ → Bool) (of-class : Class p) (text : List ℕ) where
-  -- A run goes on with a byte just where the class has it.
-  goes-on : (at token i c : ℕ) (r : Run p text at token i) → oneToken (r .first ∷ r .rest ++ c ∷ []) ≡ p c
-  unfolding every
-  goes-on at token i c r =
-      of-class .runs (r .first) (r .rest ++ c ∷ []) (both (p (r .first)) (every p (r .rest)) (r .all) .0)
-      ∙ every-more p (r .first ∷ r .rest) c ∙ rw (r .all)
-
-  module _ (i c : ℕ) (h : i < length text) (q : c ≡ getD text i 0) (l : c < 256) (e : p c ≡ true) where
-    no-end : c ≡ 10 → ⊥
-    no-end z = true≢false (sym e ∙ ap p z ∙ of-class .no-end)
-
-    pub run-first : Run p text i (256 + c) (i + 1)
-    unfolding every
-    run-first =
-        record {
-          first = c;
-          rest = [];
-          all = rw e;
-          number = refl;
-          small = omega arith;
-          along = along-first text i c h q no-end (λ z. true≢false (sym e ∙ ap p z ∙ of-class .no-space));
-        }
-
-    pub run-more : (at token next : ℕ) → Run p text at token i → next ≡ grown token c → next < 2 ^ 41 → Run p text at next (i + 1)
-    run-more at token next r g s =
-        record {
-          first = r .first;
-          rest = r .rest ++ c ∷ [];
-          all = every-more p (r .first ∷ r .rest) c ∙ rw (r .all, e);
-          number = g ∙ ap (λ (x : ℕ). grown x c) (r .number) ∙ sym (packed-more 1 (r .first ∷ r .rest) c);
-          small = s;
-          along = along-more text i c h q no-end at (r .first ∷ r .rest) (r .along) (goes-on at token i c r ∙ e);
-        }
-
-  pub run-ends : (at token i : ℕ) → Run p text at token i → (i < length text → p (getD text i 0) ≡ false) → record { token = token; behind = i } ≡ scanned text at
-  run-ends at token i r n = token-ends text at (r .first) (r .rest) i (r .along) (λ h. goes-on at token i (getD text i 0) r ∙ n h) token (r .number)
+  token-ends token e = found text at token 0 at i (x ∷ t) e (ap first (sym (a .kept) ∙ ends)) (a .no-space) (omega arith) (omega (arith, a .here))
 
 -- Whether two bytes are `:=`, `<<` or `>>`, by their number.
 abbrev pub pairs : ℕ → ℕ → Bool
 pairs c d =
-    eqb (65536 + c * 256 + d) (spelt ":=") || eqb (65536 + c * 256 + d) (spelt "<<") || eqb (65536 + c * 256 + d) (spelt ">>")
+    eqb (65536 + c * 256 + d) (codeOf ":=") || eqb (65536 + c * 256 + d) (codeOf "<<") || eqb (65536 + c * 256 + d) (codeOf ">>")
 
 -- A byte that begins no run: a token by itself, or with the next byte.
 module _ (text : List ℕ) (at c : ℕ) (h : at < length text) (q : c ≡ getD text at 0) (l : c < 256) (b : BeginsSign c) where
@@ -204,11 +114,11 @@ module _ (text : List ℕ) (at c : ℕ) (h : at < length text) (q : c ≡ getD t
   in-line d o z = true≢false (sym o ∙ rw (z, b .no-letter, b .no-digit) (simp and-false))
 
   pub sign-alone : (at + 1 < length text → (getD text (at + 1) 0 < 256) × (pairs c (getD text (at + 1) 0) ≡ false))
-      → record { token = 256 + c; behind = at + 1 } ≡ scanned text at
+      → record { token = 256 + c; start = at; behind = at + 1 } ≡ scanned text at
   sign-alone n = token-ends text at c [] (at + 1) alone (λ z. pair-token (getD text (at + 1) 0) (n z .0) ∙ n z .1) (256 + c) refl
 
   pub sign-pair : (d : ℕ) → at + 1 < length text → d ≡ getD text (at + 1) 0 → d < 256 → pairs c d ≡ true
-      → record { token = 65536 + c * 256 + d; behind = at + 1 + 1 } ≡ scanned text at
+      → record { token = 65536 + c * 256 + d; start = at; behind = at + 1 + 1 } ≡ scanned text at
   sign-pair d k r m e =
       let o : oneToken (c ∷ d ∷ []) ≡ true = pair-token d m ∙ e in
       token-ends text at c (d ∷ []) (at + 1 + 1) (along-more text (at + 1) d k r (in-line d o) at (c ∷ []) alone o)

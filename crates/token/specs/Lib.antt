@@ -1,3 +1,3 @@
-pub mod Text
 pub mod Tokens
 pub mod Next
+pub mod Code

@@ -5,7 +5,8 @@ use Prim.Native.Char.{code}
 use mathlib.Core.Bool.{Bool, true, false, cond, _&&_, _||_}
 use mathlib.Core.List.{List, [], _∷_, _++_}
 use lib.Dec.{leb, eqb}
-use Rattle.token.specs.Text.{_is_}
+use Rattle.text.specs.Text.{_is_}
+use Rattle.text.specs.Decimal.{digit}
 
 abbrev pub Token : Type 0
 Token = List ℕ
@@ -13,9 +14,6 @@ Token = List ℕ
 -- All letters are small.
 abbrev pub letter : ℕ → Bool
 letter c = leb (code "a") c && leb c (code "z")
-
-abbrev pub digit : ℕ → Bool
-digit c = leb (code "0") c && leb c (code "9")
 
 unfoldable pub every : (ℕ → Bool) → List ℕ → Bool
 every p [] = true
@@ -26,12 +24,12 @@ unfoldable pub oneToken : List ℕ → Bool
 oneToken t = every letter t || every digit t || t is ":=" || t is "<<" || t is ">>"
 
 -- What a byte begins that goes on with no token: a token, or none where it is a space.
-unfoldable pub begun : ℕ → List ℕ
-begun c = cond (eqb c (code " ")) [] (c ∷ [])
+unfoldable pub startedBy : ℕ → List ℕ
+startedBy c = cond (eqb c (code " ")) [] (c ∷ [])
 
 -- The bytes of the token that is under way behind the byte c, where t was under way before it.
 unfoldable pub under : List ℕ → ℕ → List ℕ
-under t c = cond (oneToken (t ++ c ∷ [])) (t ++ c ∷ []) (begun c)
+under t c = cond (oneToken (t ++ c ∷ [])) (t ++ c ∷ []) (startedBy c)
 
 -- The tokens ts behind the token t; no bytes are no token.
 unfoldable pub ended : List ℕ → List Token → List Token

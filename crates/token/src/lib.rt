@@ -1,14 +1,17 @@
-// Tokens: the next one of a line of micro text, as a number, and the place behind it.
+// Tokens: the next one of a line of micro text, as a number, with the span of its bytes.
 ghost use mathlib.Core.Path.{_≡_};
 ghost use Prim.Native.Nat.{_<_, _^_};
 ghost use mathlib.Core.Bool.{true};
 ghost use lib.ListN.{length, getD};
-ghost use Rattle.token.specs.Tokens.{letter, digit};
-ghost use Rattle.token.specs.Next.{grown as grownBy, scanned, BeginsSign};
+ghost use Rattle.text.specs.Decimal.{digit};
+ghost use Rattle.token.specs.Tokens.{letter};
+ghost use Rattle.token.specs.Next.{grown as grownBy, scanned};
+ghost use Rattle.token.specs.Code.Numbers.{decimalOf, BeginsSign};
 
-// A token, and the place behind it.
+// A token as a number, where its bytes begin, and what is behind them.
 pub struct Scanned {
     pub token: u64,
+    pub start: usize,
     pub behind: usize,
 }
 
@@ -27,13 +30,13 @@ fn wide(c: u8) -> u64
     c as u64
 }
 
-fn is_letter(c: u64) -> bool
+pub fn is_letter(c: u64) -> bool
     ensures { λ r. ⌜ r ≡ letter c ⌝ }
 {
     (97 <= c) & (c <= 122)
 }
 
-fn is_digit(c: u64) -> bool
+pub fn is_digit(c: u64) -> bool
     ensures { λ r. ⌜ r ≡ digit c ⌝ }
 {
     (48 <= c) & (c <= 57)
@@ -50,7 +53,7 @@ fn grown(token: u64, c: u64) -> u64
     token
 }
 
-// The first place from `at` on that is no space.
+// The first byte from `at` on that is no space.
 fn past_spaces(text: &[u8], at: usize) -> usize
     ensures { λ r. ⌜ scanned (now (text .entry)) r ≡ scanned (now (text .entry)) at ⌝ }
     ensures { λ r. ⌜ (r < length (now (text .entry)) → getD (now (text .entry)) r 0 ≡ 32 → ⊥) ⌝ }
@@ -75,12 +78,20 @@ fn word_from(text: &[u8], at: usize) -> Scanned
     while i < text.len() {
         let c = wide(text[i]);
         if !is_letter(c) {
-            return Scanned { token, behind: i };
+            return Scanned {
+                token,
+                start: at,
+                behind: i,
+            };
         }
         token = grown(token, c);
         i += 1;
     }
-    Scanned { token, behind: i }
+    Scanned {
+        token,
+        start: at,
+        behind: i,
+    }
 }
 
 // The run of digits that begins at `at`.
@@ -93,12 +104,20 @@ fn number_from(text: &[u8], at: usize) -> Scanned
     while i < text.len() {
         let c = wide(text[i]);
         if !is_digit(c) {
-            return Scanned { token, behind: i };
+            return Scanned {
+                token,
+                start: at,
+                behind: i,
+            };
         }
         token = grown(token, c);
         i += 1;
     }
-    Scanned { token, behind: i }
+    Scanned {
+        token,
+        start: at,
+        behind: i,
+    }
 }
 
 // The token that any other byte begins: that byte, or `:=`, `<<`, `>>`.
@@ -113,12 +132,14 @@ fn sign_from(text: &[u8], at: usize) -> Scanned
         if (token == ASSIGN) | (token == LEFT) | (token == RIGHT) {
             return Scanned {
                 token,
+                start: at,
                 behind: behind + 1,
             };
         }
     }
     Scanned {
         token: 256 + c,
+        start: at,
         behind,
     }
 }
@@ -131,6 +152,7 @@ pub fn next_token(text: &[u8], at: usize) -> Scanned
     if text.len() <= i {
         return Scanned {
             token: NONE,
+            start: i,
             behind: i,
         };
     }
@@ -138,6 +160,7 @@ pub fn next_token(text: &[u8], at: usize) -> Scanned
     if c == 10 {
         return Scanned {
             token: NONE,
+            start: i,
             behind: i,
         };
     }
@@ -148,4 +171,19 @@ pub fn next_token(text: &[u8], at: usize) -> Scanned
         return number_from(text, i);
     }
     sign_from(text, i)
+}
+
+// The number that a token of one or two digits with no leading zero spells, or 100.
+pub fn decimal(token: u64) -> u32
+    ensures { λ r. ⌜ r ≡ decimalOf token ⌝ }
+{
+    if (0x130 <= token) & (token <= 0x139) {
+        return (token - 0x130) as u32;
+    }
+    let high = token / 256;
+    let low = token % 256;
+    if (0x131 <= high) & (high <= 0x139) & ((48 <= low) & (low <= 57)) {
+        return ((high - 0x130) * 10 + (low - 48)) as u32;
+    }
+    100
 }

@@ -2,15 +2,17 @@
 -- reads it; the normal forms have the same lines, since a line never shows a field without use.
 use Prim.Native.Nat.{ℕ, suc, _≤_}
 use mathlib.Core.Path.{_≡_, refl, sym, _∙_}
-use mathlib.Core.Bool.{Bool, true, false, cond, not, _&&_, _||_, true≢false}
+use mathlib.Core.Bool.{Bool, true, false, cond, not, _&&_}
 use mathlib.Core.List.{List, [], _∷_, map}
 use native.Mathlib.Omega.{arith}
 use lib.ListN.{length, drop, length-map}
 use lib.Seq.{take-append-seam}
 use lib.Dec.{leb, ltb, eqb}
 use borrow.Author.Tests.{le-ltb, lt-leb, eq-eqb, ltb-false, eqb-true}
-use Rattle.microword.specs.Microword.{fieldsOf, wordOf, badWord, firstBad, normalFields, normalForm}
+use Rattle.microword.specs.Microword.{fieldsOf, wordOf, badWord, normalFields, normalForm}
+use Rattle.word.proofs.Tests.{neither}
 use Rattle.microword.proofs.Laws.{fields-within, word-below, normal-fields, normal-again}
+use Rattle.store.specs.Store.{words, goodBefore, firstBad}
 use Rattle.microtext.specs.Listing.{line, lines, upTo, shown, listing}
 use Rattle.lister.specs.Answers.{refused, done, listed}
 use Rattle.microline.proofs.Laws.{line-normal}
@@ -44,17 +46,17 @@ pub same-listing : (ws : List ℕ) → listing (map normalForm ws) ≡ listing w
 same-listing ws = rw (same-shown ws) (same-lines 0 (shown ws))
 
 -- No bad line is the same as every word good, and normal forms of good words are good.
-all-good : (ws : List ℕ) → length ws ≤ firstBad ws → AllGood ws
-unfolding firstBad
+all-good : (ws : List ℕ) → length ws ≤ goodBefore ws → AllGood ws
+unfolding goodBefore
 all-good [] h = tt
 all-good (w ∷ ws) h = by (badWord w) refl h (all-good ws)
   where
-    by : (bad : Bool) → badWord w ≡ bad → suc (length ws) ≤ cond bad 0 (suc (firstBad ws)) → (length ws ≤ firstBad ws → AllGood ws) → (badWord w ≡ false) × AllGood ws
+    by : (bad : Bool) → badWord w ≡ bad → suc (length ws) ≤ cond bad 0 (suc (goodBefore ws)) → (length ws ≤ goodBefore ws → AllGood ws) → (badWord w ≡ false) × AllGood ws
     by true e h rest = let z : ⊥ = omega arith in absurd z
     by false e h rest = (e, rest (omega arith))
 
-no-bad : (ws : List ℕ) → AllGood ws → length ws ≤ firstBad ws
-unfolding firstBad
+no-bad : (ws : List ℕ) → AllGood ws → length ws ≤ goodBefore ws
+unfolding goodBefore
 no-bad [] a = omega arith
 no-bad (w ∷ ws) a = rw (a .0) (omega (arith, no-bad ws (a .1)))
 
@@ -62,11 +64,7 @@ normal-good : (w : ℕ) → badWord w ≡ false → badWord (normalForm w) ≡ f
 unfolding badWord normalForm
 normal-good w e =
     let below : leb 8388608 (normalForm w) ≡ false = unfold normalForm in (lt-leb 8388608 (wordOf (normalFields (fieldsOf w))) (word-below (normalFields (fieldsOf w)))) in
-    rw (below, normal-fields w) (unfold normalFields in (right (leb 8388608 w) (eqb (fieldsOf w .rd) 1 && eqb (fieldsOf w .wr) 1) e))
-  where
-    right : (a b : Bool) → (a || b) ≡ false → b ≡ false
-    right true b e = absurd (true≢false e)
-    right false b e = e
+    rw (below, normal-fields w) (unfold normalFields in (neither (leb 8388608 w) (eqb (fieldsOf w .rd) 1 && eqb (fieldsOf w .wr) 1) e .1))
 
 normals-good : (ws : List ℕ) → AllGood ws → AllGood (map normalForm ws)
 normals-good [] a = tt
@@ -76,28 +74,28 @@ normals-good (w ∷ ws) a = (normal-good w (a .0), normals-good ws (a .1))
 record Listable (store room : List ℕ) : Type 0 where
   lines : length store ≡ 64
   wide : ltb (length room) 2816 ≡ false
-  good : length store ≤ firstBad store
-  fits : ltb (length room) (length (listing store)) ≡ false
+  good : length (words store) ≤ firstBad store
+  fits : ltb (length room) (length (listing (words store))) ≡ false
 
 listable : (store room : List ℕ) → listed store room .answer ≡ 0 → Listable store room
 unfolding listed
 listable store room e =
-    by (eqb (length store) 64) (ltb (length room) 2816) (ltb (firstBad store) (length store)) (ltb (length room) (length (listing store))) refl refl refl refl e
+    by (eqb (length store) 64) (ltb (length room) 2816) (ltb (firstBad store) (length (words store))) (ltb (length room) (length (listing (words store)))) refl refl refl refl e
   where
-    by : (a b c d : Bool) → eqb (length store) 64 ≡ a → ltb (length room) 2816 ≡ b → ltb (firstBad store) (length store) ≡ c → ltb (length room) (length (listing store)) ≡ d
-        → cond (not a) (refused 1 0 room) (cond b (refused 16 0 room) (cond c (refused 4 (firstBad store) room) (cond d (refused 17 0 room) (done (listing store) room)))) .answer ≡ 0
+    by : (a b c d : Bool) → eqb (length store) 64 ≡ a → ltb (length room) 2816 ≡ b → ltb (firstBad store) (length (words store)) ≡ c → ltb (length room) (length (listing (words store))) ≡ d
+        → cond (not a) (refused 1 0 room) (cond b (refused 16 0 room) (cond c (refused 4 (firstBad store) room) (cond d (refused 17 0 room) (done (listing (words store)) room)))) .answer ≡ 0
         → Listable store room
     by false b c d p q r s e = let z : ⊥ = omega arith in absurd z
     by true true c d p q r s e = let z : ⊥ = omega arith in absurd z
     by true false true d p q r s e = let z : ⊥ = omega arith in absurd z
     by true false false true p q r s e = let z : ⊥ = omega arith in absurd z
-    by true false false false p q r s e = record { lines = eqb-true (length store) 64 p; wide = q; good = ltb-false (firstBad store) (length store) r; fits = s }
+    by true false false false p q r s e = record { lines = eqb-true (length store) 64 p; wide = q; good = ltb-false (firstBad store) (length (words store)) r; fits = s }
 
 -- Then its text is the listing.
-text-is : (store room : List ℕ) → Listable store room → text store room ≡ listing store
+text-is : (store room : List ℕ) → Listable store room → text store room ≡ listing (words store)
 unfolding listed
 text-is store room l =
-    rw (eq-eqb _ _ (l .lines), l .wide, le-ltb _ _ (l .good), l .fits) (take-append-seam (listing store) (drop (length (listing store)) room))
+    rw (eq-eqb _ _ (l .lines), l .wide, le-ltb _ _ (l .good), l .fits) (take-append-seam (listing store) (drop (length (listing (words store))) room))
 
 pub back : (store room : List ℕ) → listed store room .answer ≡ 0 → Back store room
 back store room e =

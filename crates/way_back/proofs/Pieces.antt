@@ -1,19 +1,20 @@
 -- Text made of parts, each behind a space and before a semicolon, is cut into those parts again.
-use Prim.Native.Nat.{ℕ, _<_}
+use Prim.Native.Nat.{ℕ}
 use Prim.Native.Char.{code}
 use mathlib.Core.Path.{_≡_, refl, sym, ap, ap₂, _∙_}
 use mathlib.Core.Bool.{Bool, true, false, not, _&&_, _||_, and-true, and-false, false≢true}
 use mathlib.Core.List.{List, [], _∷_, _++_, map}
 use borrow.Author.Tests.{not-true}
 use lib.Dec.{eqb}
-use Rattle.token.specs.Text.{same, _is_}
-use Rattle.token.specs.Tokens.{Token, letter, digit, every, oneToken, begun, under, ended, going, tokensAfter, tokens}
+use Rattle.token.specs.Tokens.{Token, letter, every, oneToken, under, ended, going, tokensAfter, tokens, startedBy}
 use Rattle.part.specs.Grammar.{part}
 use Rattle.microtext.specs.Line.{cut, divided, lastPart, parts}
 use Rattle.part.specs.declared.Part.{Part}
 use Rattle.word.proofs.Tests.{both}
-use Rattle.token.proofs.Scan.{every-more}
 use Rattle.microtext.proofs.Whole.{divided-some}
+use Rattle.text.specs.Text.{same, _is_}
+use Rattle.text.specs.Decimal.{digit}
+use Rattle.token.proofs.Runs.{every-more}
 use Rattle.way_back.proofs.Printed.{undivided}
 
 -- A byte that goes on with no token: no letter, no digit, and none that ends `:=`, `<<` or `>>`.
@@ -75,7 +76,7 @@ going-append false t ts us = ended-append t ts us
 -- Before such a byte the tokens can be cut.
 pub tokens-split : (p t : List ℕ) (c : ℕ) (q : List ℕ) → apart c ≡ true → tokensAfter t (p ++ c ∷ q) ≡ tokensAfter t p ++ tokens (c ∷ q)
 unfolding tokensAfter under going ended
-tokens-split [] t c q a = rw (never-joins c a t, never-joins c a []) (sym (ended-append t [] (tokensAfter (begun c) q)))
+tokens-split [] t c q a = rw (never-joins c a t, never-joins c a []) (sym (ended-append t [] (tokensAfter (startedBy c) q)))
 tokens-split (x ∷ p) t c q a =
     ap (going (oneToken (t ++ x ∷ [])) t) (tokens-split p (under t x) c q a)
     ∙ sym (going-append (oneToken (t ++ x ∷ [])) t (tokensAfter (under t x) p) (tokens (c ∷ q)))
@@ -92,14 +93,14 @@ sign-first c e [] = e
 sign-first c e (p ∷ ps) = tokens-split (c ∷ []) [] 32 (p ++ 59 ∷ spaced ps) refl ∙ ap (λ (x : List Token). x ++ tokens (32 ∷ (p ++ 59 ∷ spaced ps))) e
 
 signs : (tokens (58 ∷ []) ≡ (58 ∷ []) ∷ []) × (tokens (59 ∷ []) ≡ (59 ∷ []) ∷ [])
-unfolding tokensAfter going ended under begun oneToken every same
+unfolding tokensAfter going ended under startedBy oneToken every same
 signs = (refl, refl)
 
 pub colon-first : (ps : List (List ℕ)) → tokens (58 ∷ spaced ps) ≡ (58 ∷ []) ∷ tokens (spaced ps)
 colon-first ps = sign-first 58 (signs .0) ps
 
 space-first : (p : List ℕ) → tokens (32 ∷ p) ≡ tokens p
-unfolding tokensAfter going ended under begun oneToken every same
+unfolding tokensAfter going ended under startedBy oneToken every same
 space-first p = refl
 
 -- The tokens of the parts, with their semicolons.

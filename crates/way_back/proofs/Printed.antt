@@ -8,15 +8,16 @@ use borrow.Author.Tests.{eqb-true, ltb-true, lt-ltb}
 use lib.Dec.{ltb, eqb}
 use lib.ListN.{length}
 use Rattle.microword.specs.declared.Fields.{Fields}
-use Rattle.token.specs.Text.{bytes, same, _is_}
-use Rattle.token.specs.Tokens.{Token, every, oneToken, begun, under, ended, going, tokensAfter, tokens}
-use Rattle.part.specs.Grammar.{place, register, destination, number, operation, formula, last, front, bare, jump, test, part}
+use Rattle.token.specs.Tokens.{Token, every, oneToken, under, ended, going, tokensAfter, tokens, startedBy}
+use Rattle.part.specs.Grammar.{destination, operation, formula, last, front, bare, jump, test, part, index, registerNamed}
 use Rattle.microtext.specs.Listing as listing
-use Rattle.microtext.specs.Listing.{decimal, formulas, jumps}
+use Rattle.microtext.specs.Listing.{formulas, jumpTexts}
 use Rattle.part.specs.declared.Part.{Part}
 use Rattle.part.specs.declared.Part.the-variants.{Operation, Transfer, Jump, Foreign}
 use Rattle.word.proofs.Tests.{both, all, all-at}
-use Rattle.token.proofs.Packed.{same-equal}
+use Rattle.text.specs.Text.{bytes, same, _is_}
+use Rattle.text.specs.Decimal.{fromDecimal, shortDecimal}
+use Rattle.text.proofs.Same.{same-equal}
 
 -- No token is a semicolon; no byte is 10.
 unfoldable pub undivided : List Token → Bool
@@ -100,7 +101,7 @@ operates : ℕ → ℕ → ℕ → ℕ → Bool
 operates to f a b = goes (listing.operation (operating to f a b)) (Operation to f a (second f b))
 
 all-operate : all 9 (λ to. all 8 (λ f. all 8 (λ a. all 8 (λ b. operates to f a b)))) ≡ true
-unfolding all operates goes samePart undivided unbroken tokensAfter going ended under begun oneToken every same part formula bare last front operation jump test number register destination place listing.operation formulas
+unfolding all operates goes samePart undivided unbroken tokensAfter going ended under startedBy oneToken every same part formula bare last front operation jump test fromDecimal registerNamed destination index listing.operation formulas
 all-operate = refl
 
 operating-back : (to f a b : ℕ) → to < 9 → f < 8 → a < 8 → b < 8 → Back (listing.operation (operating to f a b)) (Operation to f a (second f b))
@@ -121,17 +122,17 @@ unfolding listing.operation
 operation-back m k l h n = go (eqb (m .hs) 0)
   where
     go : (z : Bool)
-        → Back (cond z (bytes "alu") (listing.register (m .s)) ++ bytes ":=" ++ listing.formula m) (Operation (cond z 8 (m .s)) (m .f) (m .a) (second (m .f) (m .b)))
+        → Back (cond z (bytes "alu") (listing.registerName (m .s)) ++ bytes ":=" ++ listing.formula m) (Operation (cond z 8 (m .s)) (m .f) (m .a) (second (m .f) (m .b)))
     go true = operating-back 8 (m .f) (m .a) (m .b) (omega arith) l h n
     go false = rw (lt-ltb (m .s) 8 k) at (operating-back (m .s) (m .f) (m .a) (m .b) (omega arith) l h n)
 
 -- Transfers.
 pub rd-back : Back (bytes "rd") (Transfer 1 0)
-unfolding goes samePart undivided unbroken tokensAfter going ended under begun oneToken every same part
+unfolding goes samePart undivided unbroken tokensAfter going ended under startedBy oneToken every same part
 rd-back = goes-back (bytes "rd") (Transfer 1 0) refl
 
 pub wr-back : Back (bytes "wr") (Transfer 0 1)
-unfolding goes samePart undivided unbroken tokensAfter going ended under begun oneToken every same part
+unfolding goes samePart undivided unbroken tokensAfter going ended under startedBy oneToken every same part
 wr-back = goes-back (bytes "wr") (Transfer 0 1) refl
 
 -- Jumps.
@@ -142,7 +143,7 @@ leads : ℕ → ℕ → Bool
 leads n k = goes (listing.jump (jumping (suc n) k)) (Jump (suc n) k)
 
 all-lead : all 3 (λ n. all 64 (λ k. leads n k)) ≡ true
-unfolding all leads goes samePart undivided unbroken tokensAfter going ended under begun oneToken every same part formula bare operation jump test number register destination place listing.jump jumps decimal
+unfolding all leads goes samePart undivided unbroken tokensAfter going ended under startedBy oneToken every same part formula bare operation jump test fromDecimal registerNamed destination index listing.jump jumpTexts shortDecimal
 all-lead = refl
 
 leading : (n k : ℕ) → n < 3 → k < 64 → Back (listing.jump (jumping (suc n) k)) (Jump (suc n) k)
@@ -153,16 +154,16 @@ pub jump-back : (m : Fields) → (m .sq ≡ 0 → ⊥) → m .sq < 4 → m .end 
 unfolding listing.jump
 jump-back m n l h = go (m .sq) n l
   where
-    go : (sq : ℕ) → (sq ≡ 0 → ⊥) → sq < 4 → Back (lib.ListN.getD jumps sq [] ++ decimal (m .end)) (Jump sq (m .end))
+    go : (sq : ℕ) → (sq ≡ 0 → ⊥) → sq < 4 → Back (lib.ListN.getD jumpTexts sq [] ++ shortDecimal (m .end)) (Jump sq (m .end))
     go zero n l = absurd (n refl)
     go (suc sq) n l = leading sq (m .end) (omega arith) h
 
 -- A line's number is one token, and the number it spells.
 pub record Numbered (k : ℕ) : Type 0 where
-  pub token : tokens (decimal k) ≡ decimal k ∷ []
-  pub value : number (decimal k) ≡ k
-  pub one-line : unbroken (decimal k) ≡ true
-  pub short : length (decimal k) < 3
+  pub token : tokens (shortDecimal k) ≡ shortDecimal k ∷ []
+  pub value : fromDecimal (shortDecimal k) ≡ k
+  pub one-line : unbroken (shortDecimal k) ≡ true
+  pub short : length (shortDecimal k) < 3
 
 abbrev onlyToken : List Token → Token → Bool
 onlyToken [] t = false
@@ -175,16 +176,16 @@ only-token (u ∷ []) t e = ap (λ (x : Token). x ∷ []) (same-equal u t e)
 only-token (u ∷ v ∷ ts) t e = absurd (false≢true e)
 
 numbers : ℕ → Bool
-numbers k = onlyToken (tokens (decimal k)) (decimal k) && eqb (number (decimal k)) k && unbroken (decimal k) && ltb (length (decimal k)) 3
+numbers k = onlyToken (tokens (shortDecimal k)) (shortDecimal k) && eqb (fromDecimal (shortDecimal k)) k && unbroken (shortDecimal k) && ltb (length (shortDecimal k)) 3
 
 all-numbers : all 64 numbers ≡ true
-unfolding all numbers unbroken tokensAfter going ended under begun oneToken every same number decimal
+unfolding all numbers unbroken tokensAfter going ended under startedBy oneToken every same fromDecimal shortDecimal
 all-numbers = refl
 
 pub number-back : (k : ℕ) → k < 64 → Numbered k
 unfolding numbers
 number-back k h =
-    let e = both (onlyToken (tokens (decimal k)) (decimal k) && eqb (number (decimal k)) k && unbroken (decimal k)) (ltb (length (decimal k)) 3) (all-at 64 numbers all-numbers k h) in
-    let f = both (onlyToken (tokens (decimal k)) (decimal k) && eqb (number (decimal k)) k) (unbroken (decimal k)) (e .0) in
-    let g = both (onlyToken (tokens (decimal k)) (decimal k)) (eqb (number (decimal k)) k) (f .0) in
-    record { token = only-token (tokens (decimal k)) (decimal k) (g .0); value = eqb-true (number (decimal k)) k (g .1); one-line = f .1; short = ltb-true (length (decimal k)) 3 (e .1) }
+    let e = both (onlyToken (tokens (shortDecimal k)) (shortDecimal k) && eqb (fromDecimal (shortDecimal k)) k && unbroken (shortDecimal k)) (ltb (length (shortDecimal k)) 3) (all-at 64 numbers all-numbers k h) in
+    let f = both (onlyToken (tokens (shortDecimal k)) (shortDecimal k) && eqb (fromDecimal (shortDecimal k)) k) (unbroken (shortDecimal k)) (e .0) in
+    let g = both (onlyToken (tokens (shortDecimal k)) (shortDecimal k)) (eqb (fromDecimal (shortDecimal k)) k) (f .0) in
+    record { token = only-token (tokens (shortDecimal k)) (shortDecimal k) (g .0); value = eqb-true (fromDecimal (shortDecimal k)) k (g .1); one-line = f .1; short = ltb-true (length (shortDecimal k)) 3 (e .1) }

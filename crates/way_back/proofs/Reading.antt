@@ -5,21 +5,22 @@ use mathlib.Core.Bool.{Bool, true, false, cond, not}
 use mathlib.Core.List.{List, [], _∷_, _++_, map, append-assoc}
 use native.Mathlib.Nat.{sub-zero, suc-sub-suc}
 use native.Mathlib.Omega.{arith}
-use borrow.Author.Tests.{eqb-true, not-true}
+use borrow.Author.Tests.{eqb-true, not-true, eq-eqb}
 use lib.Dec.{eqb}
 use lib.ListN.{length, drop, set, replicate, length-append, length-map}
 use lib.Seq.{sets, sets-eq}
 use Rattle.microword.specs.Microword.{fieldsOf, badWord, normalForm}
 use Rattle.microword.proofs.Laws.{fields-within}
-use Rattle.microtext.specs.Line.{line}
 use Rattle.microtext.specs.Listing as listing
-use Rattle.microtext.specs.Listing.{decimal, upTo, shown}
+use Rattle.microtext.specs.Listing.{upTo, shown}
 use Rattle.word.proofs.Tests.{both}
-use Rattle.assembler.specs.Assembled.{prefixed, lines, laid, onward, filled, zeroWords, assembled}
-use Rattle.assembler.proofs.Filled.{by-lines}
+use Rattle.microassembler.specs.Assembled.{laid, onward, filled, zeroWords, assembled}
+use Rattle.microassembler.proofs.Filled.{by-lines}
+use Rattle.text.specs.Text.{prefixed, lines}
+use Rattle.text.specs.Decimal.{shortDecimal}
 use Rattle.way_back.proofs.Printed.{unbroken, number-back}
 use Rattle.way_back.proofs.Pieces.{spaced}
-use Rattle.way_back.proofs.Relisted.{Each, texts, texts-each, texts-few, body, body-spaced, line-back}
+use Rattle.way_back.proofs.Relisted.{All, texts, texts-each, texts-few, body, body-spaced, line-back}
 
 -- Lines of a listing.
 lines-first : (l s : List ℕ) → unbroken l ≡ true → lines (l ++ 10 ∷ s) ≡ l ∷ lines s
@@ -36,7 +37,7 @@ unbroken-append (c ∷ p) q a b =
     let h = both (not (eqb c 10)) (unbroken p) a in
     rw (h .0) (unbroken-append p q (h .1) b)
 
-spaced-unbroken : (ps : List (List ℕ)) → Each (λ x. unbroken x ≡ true) ps → unbroken (spaced ps) ≡ true
+spaced-unbroken : (ps : List (List ℕ)) → All (λ x. unbroken x ≡ true) ps → unbroken (spaced ps) ≡ true
 unfolding spaced unbroken
 spaced-unbroken [] e = refl
 spaced-unbroken (p ∷ ps) e = unbroken-append p (59 ∷ spaced ps) (e .0) (spaced-unbroken ps (e .1))
@@ -45,18 +46,18 @@ body-unbroken : (k w : ℕ) → k < 64 → unbroken (body k (fieldsOf w)) ≡ tr
 unfolding unbroken
 body-unbroken k w l =
     rw (body-spaced k (fieldsOf w))
-    (unbroken-append (decimal k) (58 ∷ spaced (texts (fieldsOf w))) (number-back k l .one-line)
+    (unbroken-append (shortDecimal k) (58 ∷ spaced (texts (fieldsOf w))) (number-back k l .one-line)
     (spaced-unbroken (texts (fieldsOf w)) (texts-each (λ x. unbroken x ≡ true) (fieldsOf w) (fields-within w) (λ x p b. b .one-line))))
 
 -- They are not long.
-spaced-short : (ps : List (List ℕ)) → Each (λ x. length x < 18) ps → length (spaced ps) ≤ 19 * length ps
+spaced-short : (ps : List (List ℕ)) → All (λ x. length x < 18) ps → length (spaced ps) ≤ 19 * length ps
 unfolding spaced
 spaced-short [] e = omega arith
 spaced-short (p ∷ ps) e = let h = spaced-short ps (e .1) in rw (length-append p (59 ∷ spaced ps)) (omega (arith, e .0))
 
 body-short : (k w : ℕ) → k < 64 → length (body k (fieldsOf w)) ≤ 60
 body-short k w l =
-    rw (body-spaced k (fieldsOf w), length-append (decimal k) (58 ∷ spaced (texts (fieldsOf w))))
+    rw (body-spaced k (fieldsOf w), length-append (shortDecimal k) (58 ∷ spaced (texts (fieldsOf w))))
     (omega (
       arith,
       number-back k l .short,
@@ -168,4 +169,5 @@ filled-back ws h a =
 
 pub listing-back : (ws store : List ℕ) → length ws ≡ 64 → AllGood ws → length store ≡ 64 → assembled (listing.listing ws) store ≡ record { answer = 0; store = map normalForm ws }
 listing-back ws store h a k =
-    by-lines (listing.listing ws) store (laid (map normalForm ws)) k (omega (arith, listed-short (shown ws) 0 (omega (arith, shown-few ws)), shown-few ws)) (filled-back ws h a)
+    by-lines (listing.listing ws) store (ap not (eq-eqb (length store) 64 k)) (laid (map normalForm ws))
+    (omega (arith, listed-short (shown ws) 0 (omega (arith, shown-few ws)), shown-few ws)) (filled-back ws h a)

@@ -10,16 +10,16 @@ use lib.ListN.{length}
 use Rattle.microword.specs.Microword.{fieldsOf, wordOf, badWord, idle, binary, normalFields, normalForm}
 use Rattle.microword.specs.declared.Fields.{Fields}
 use Rattle.microword.proofs.Laws.{Within, fields-within}
-use Rattle.token.specs.Text.{bytes, same}
 use Rattle.token.specs.Tokens.{Token, tokens}
-use Rattle.part.specs.Grammar.{number, part}
-use Rattle.microtext.specs.Line.{someForeign, add, nothing, given, clash, settled, meaning, divided, parts, behindNumber, numbered, line}
+use Rattle.part.specs.Grammar.{part}
+use Rattle.microtext.specs.Line.{someForeign, add, nothing, given, clash, settled, meaning, divided, parts, behindNumber, numbered, line, hasJump, hasTransfer}
 use Rattle.microtext.specs.Listing as listing
-use Rattle.microtext.specs.Listing.{decimal}
 use Rattle.part.specs.declared.Part.{Part}
 use Rattle.part.specs.declared.Part.the-variants.{Operation, Transfer, Jump}
 use Rattle.microtext.specs.declared.Meaning.the-variants.{Word}
-use Rattle.assembler.proofs.Normal.{neither}
+use Rattle.word.proofs.Tests.{neither}
+use Rattle.text.specs.Text.{bytes, same}
+use Rattle.text.specs.Decimal.{fromDecimal, shortDecimal}
 use Rattle.way_back.proofs.Printed.{Back, second, target, operation-back, rd-back, wr-back, jump-back, number-back, undivided}
 use Rattle.way_back.proofs.Pieces.{spaced, tokens-split, colon-first, AllUndivided, parts-back}
 
@@ -62,12 +62,6 @@ all-given false false false to f a b r v q k = refl
 abbrev operates : Fields → Bool
 operates m = not (idle m)
 
-abbrev moves : Fields → Bool
-moves m = eqb (m .rd) 1 || eqb (m .wr) 1
-
-abbrev jumps : Fields → Bool
-jumps m = not (eqb (m .sq) 0)
-
 turned : (b : Bool) (x : ℕ) → cond (not b) x 0 ≡ cond b 0 x
 turned true x = refl
 turned false x = refl
@@ -104,7 +98,7 @@ module _ (m : Fields) (h : Within m) (apart : (eqb (m .rd) 1 && eqb (m .wr) 1) �
       go false true = refl
       go false false = refl
 
-  moved-rd : cond (moves m) (cond (eqb (m .rd) 1) 1 0) 0 ≡ m .rd
+  moved-rd : cond (hasTransfer m) (cond (eqb (m .rd) 1) 1 0) 0 ≡ m .rd
   moved-rd = go (eqb (m .rd) 1) (eqb (m .wr) 1) refl
     where
       zero-or : eqb (m .rd) 1 ≡ false → 0 ≡ m .rd
@@ -115,7 +109,7 @@ module _ (m : Fields) (h : Within m) (apart : (eqb (m .rd) 1 && eqb (m .wr) 1) �
       go false true e = zero-or e
       go false false e = zero-or e
 
-  moved-wr : cond (moves m) (cond (eqb (m .rd) 1) 0 1) 0 ≡ m .wr
+  moved-wr : cond (hasTransfer m) (cond (eqb (m .rd) 1) 0 1) 0 ≡ m .wr
   moved-wr = go (eqb (m .rd) 1) (eqb (m .wr) 1) refl refl
     where
       zero-or : eqb (m .wr) 1 ≡ false → 0 ≡ m .wr
@@ -127,7 +121,7 @@ module _ (m : Fields) (h : Within m) (apart : (eqb (m .rd) 1 && eqb (m .wr) 1) �
       go false true p q = sym (eqb-true (m .wr) 1 q)
       go false false p q = zero-or q
 
-  jumped-sq : cond (jumps m) (m .sq) 0 ≡ m .sq
+  jumped-sq : cond (hasJump m) (m .sq) 0 ≡ m .sq
   jumped-sq = go (eqb (m .sq) 0) refl
     where
       go : (z : Bool) → eqb (m .sq) 0 ≡ z → cond (not z) (m .sq) 0 ≡ m .sq
@@ -136,11 +130,11 @@ module _ (m : Fields) (h : Within m) (apart : (eqb (m .rd) 1 && eqb (m .wr) 1) �
 
   -- The parts of a word give its normal fields.
   pub normal-given : given nothing (when (operates m) (Operation (target m) (m .f) (m .a) (second (m .f) (m .b)))
-      ++ (when (moves m) (Transfer (cond (eqb (m .rd) 1) 1 0) (cond (eqb (m .rd) 1) 0 1)) ++ when (jumps m) (Jump (m .sq) (m .end))))
-      ≡ record { far = jumps m && leb 64 (m .end); twice = false; operation = operates m; fields = normalFields m }
+      ++ (when (hasTransfer m) (Transfer (cond (eqb (m .rd) 1) 1 0) (cond (eqb (m .rd) 1) 0 1)) ++ when (hasJump m) (Jump (m .sq) (m .end))))
+      ≡ record { far = hasJump m && leb 64 (m .end); twice = false; operation = operates m; fields = normalFields m }
   unfolding normalFields
   normal-given =
-      all-given (operates m) (moves m) (jumps m) (target m) (m .f) (m .a) (second (m .f) (m .b)) (cond (eqb (m .rd) 1) 1 0) (cond (eqb (m .rd) 1) 0 1) (m .sq) (m .end)
+      all-given (operates m) (hasTransfer m) (hasJump m) (target m) (m .f) (m .a) (second (m .f) (m .b)) (cond (eqb (m .rd) 1) 1 0) (cond (eqb (m .rd) 1) 0 1) (m .sq) (m .end)
       ∙ rw (turned (idle m) (m .a), stored-b, stored-s, stored-hs, turned (idle m) (m .f), moved-rd, moved-wr, jumped-sq, turned (eqb (m .sq) 0) (m .end))
 
   -- They do not clash, and lead nowhere far.
@@ -162,14 +156,14 @@ module _ (m : Fields) (h : Within m) (apart : (eqb (m .rd) 1 && eqb (m .wr) 1) �
       go (suc (suc (suc zero))) z l = none z
       go (suc (suc (suc (suc q)))) z l = absurd (omega arith)
 
-  not-far : (jumps m && leb 64 (m .end)) ≡ false
-  not-far = rw (lt-leb 64 (m .end) (h .end)) (go (jumps m))
+  not-far : (hasJump m && leb 64 (m .end)) ≡ false
+  not-far = rw (lt-leb 64 (m .end) (h .end)) (go (hasJump m))
     where
       go : (j : Bool) → (j && false) ≡ false
       go true = refl
       go false = refl
 
-  settles : settled (record { far = jumps m && leb 64 (m .end); twice = false; operation = operates m; fields = normalFields m }) ≡ Word (wordOf (normalFields m))
+  settles : settled (record { far = hasJump m && leb 64 (m .end); twice = false; operation = operates m; fields = normalFields m }) ≡ Word (wordOf (normalFields m))
   unfolding settled
   settles = rw (not-far, no-clash)
 
@@ -201,11 +195,11 @@ none-foreign false false true to f a b r v q k = refl
 none-foreign false false false to f a b r v q k = refl
 
 -- A property of those that are there.
-abbrev pub Each : (List ℕ → Type 0) → List (List ℕ) → Type 0
-Each P [] = Unit {0}
-Each P (p ∷ ps) = P p × Each P ps
+abbrev pub All : (List ℕ → Type 0) → List (List ℕ) → Type 0
+All P [] = Unit {0}
+All P (p ∷ ps) = P p × All P ps
 
-each-when : (P : List ℕ → Type 0) (b : Bool) (x : List ℕ) (ps : List (List ℕ)) → (b ≡ true → P x) → Each P ps → Each P (when b x ++ ps)
+each-when : (P : List ℕ → Type 0) (b : Bool) (x : List ℕ) (ps : List (List ℕ)) → (b ≡ true → P x) → All P ps → All P (when b x ++ ps)
 each-when P true x ps h r = (h refl, r)
 each-when P false x ps h r = r
 
@@ -214,7 +208,7 @@ abbrev transferText : Fields → List ℕ
 transferText m = cond (eqb (m .rd) 1) (bytes "rd") (bytes "wr")
 
 abbrev pub texts : Fields → List (List ℕ)
-texts m = when (operates m) (listing.operation m) ++ (when (moves m) (transferText m) ++ when (jumps m) (listing.jump m))
+texts m = when (operates m) (listing.operation m) ++ (when (hasTransfer m) (transferText m) ++ when (hasJump m) (listing.jump m))
 
 transfer-back : (m : Fields) → Back (transferText m) (Transfer (cond (eqb (m .rd) 1) 1 0) (cond (eqb (m .rd) 1) 0 1))
 transfer-back m = go (eqb (m .rd) 1)
@@ -223,23 +217,23 @@ transfer-back m = go (eqb (m .rd) 1)
     go true = rd-back
     go false = wr-back
 
-there : (m : Fields) → jumps m ≡ true → m .sq ≡ 0 → ⊥
+there : (m : Fields) → hasJump m ≡ true → m .sq ≡ 0 → ⊥
 there m e z = false≢true (sym (ap not (eq-eqb (m .sq) 0 z)) ∙ e)
 
 -- What holds of the text of each kind of part holds of those that a line has.
-pub texts-each : (P : List ℕ → Type 0) (m : Fields) → Within m → ((x : List ℕ) (p : Part) → Back x p → P x) → Each P (texts m)
+pub texts-each : (P : List ℕ → Type 0) (m : Fields) → Within m → ((x : List ℕ) (p : Part) → Back x p → P x) → All P (texts m)
 texts-each P m h f =
-    each-when P (operates m) (listing.operation m) (when (moves m) (transferText m) ++ when (jumps m) (listing.jump m))
+    each-when P (operates m) (listing.operation m) (when (hasTransfer m) (transferText m) ++ when (hasJump m) (listing.jump m))
     (λ e. f _ _ (operation-back m (h .s) (h .f) (h .a) (h .b)))
-    (each-when P (moves m) (transferText m) (when (jumps m) (listing.jump m)) (λ e. f _ _ (transfer-back m)) (last (jumps m) (λ e. f _ _ (jump-back m (there m e) (h .sq) (h .end)))))
+    (each-when P (hasTransfer m) (transferText m) (when (hasJump m) (listing.jump m)) (λ e. f _ _ (transfer-back m)) (last (hasJump m) (λ e. f _ _ (jump-back m (there m e) (h .sq) (h .end)))))
   where
-    last : (b : Bool) → (b ≡ true → P (listing.jump m)) → Each P (when b (listing.jump m))
+    last : (b : Bool) → (b ≡ true → P (listing.jump m)) → All P (when b (listing.jump m))
     last true g = (g refl, tt)
     last false g = tt
 
 -- The body of a line: all but its byte 10.
 abbrev pub body : ℕ → Fields → List ℕ
-body k m = decimal k ++ bytes ":" ++ listing.operationPart m ++ listing.transferPart m ++ listing.jumpPart m
+body k m = shortDecimal k ++ bytes ":" ++ listing.operationPart m ++ listing.transferPart m ++ listing.jumpPart m
 
 spaced-append : (ps qs : List (List ℕ)) → spaced (ps ++ qs) ≡ spaced ps ++ spaced qs
 unfolding spaced
@@ -251,48 +245,48 @@ unfolding spaced
 spaced-when true x = refl
 spaced-when false x = refl
 
-pub body-spaced : (k : ℕ) (m : Fields) → body k m ≡ decimal k ++ 58 ∷ spaced (texts m)
+pub body-spaced : (k : ℕ) (m : Fields) → body k m ≡ shortDecimal k ++ 58 ∷ spaced (texts m)
 body-spaced k m =
     simp append-assoc
-    (ap (λ (x : List ℕ). decimal k ++ 58 ∷ x)
+    (ap (λ (x : List ℕ). shortDecimal k ++ 58 ∷ x)
     (sym
-    (spaced-append (when (operates m) (listing.operation m)) (when (moves m) (transferText m) ++ when (jumps m) (listing.jump m))
+    (spaced-append (when (operates m) (listing.operation m)) (when (hasTransfer m) (transferText m) ++ when (hasJump m) (listing.jump m))
     ∙ ap₂ (λ (x y : List ℕ). x ++ y) (spaced-when (operates m) (listing.operation m))
-    (spaced-append (when (moves m) (transferText m)) (when (jumps m) (listing.jump m))
-    ∙ ap₂ (λ (x y : List ℕ). x ++ y) (spaced-when (moves m) (transferText m)) (spaced-when (jumps m) (listing.jump m))))))
+    (spaced-append (when (hasTransfer m) (transferText m)) (when (hasJump m) (listing.jump m))
+    ∙ ap₂ (λ (x y : List ℕ). x ++ y) (spaced-when (hasTransfer m) (transferText m)) (spaced-when (hasJump m) (listing.jump m))))))
 
-body-tokens : (k : ℕ) → k < 64 → (m : Fields) → tokens (body k m) ≡ decimal k ∷ (58 ∷ []) ∷ tokens (spaced (texts m))
+body-tokens : (k : ℕ) → k < 64 → (m : Fields) → tokens (body k m) ≡ shortDecimal k ∷ (58 ∷ []) ∷ tokens (spaced (texts m))
 body-tokens k l m =
-    ap tokens (body-spaced k m) ∙ tokens-split (decimal k) [] 58 (spaced (texts m)) refl
+    ap tokens (body-spaced k m) ∙ tokens-split (shortDecimal k) [] 58 (spaced (texts m)) refl
     ∙ ap₂ (λ (x y : List Token). x ++ y) (number-back k l .token) (colon-first (texts m))
 
 -- The parts of a line, read back.
-all-undivided : (ps : List (List ℕ)) → Each (λ x. undivided (tokens x) ≡ true) ps → AllUndivided ps
+all-undivided : (ps : List (List ℕ)) → All (λ x. undivided (tokens x) ≡ true) ps → AllUndivided ps
 all-undivided [] e = tt
 all-undivided (p ∷ ps) e = (e .0, all-undivided ps (e .1))
 
 texts-parts : (m : Fields) → Within m
     → parts (divided (tokens (spaced (texts m))))
     ≡ when (operates m) (Operation (target m) (m .f) (m .a) (second (m .f) (m .b)))
-    ++ (when (moves m) (Transfer (cond (eqb (m .rd) 1) 1 0) (cond (eqb (m .rd) 1) 0 1)) ++ when (jumps m) (Jump (m .sq) (m .end)))
+    ++ (when (hasTransfer m) (Transfer (cond (eqb (m .rd) 1) 1 0) (cond (eqb (m .rd) 1) 0 1)) ++ when (hasJump m) (Jump (m .sq) (m .end)))
 texts-parts m h =
     parts-back (texts m) (all-undivided (texts m) (texts-each (λ x. undivided (tokens x) ≡ true) m h (λ x p b. b .one-piece)))
-    ∙ map-when (operates m) (moves m) (jumps m) (listing.operation m) (transferText m) (listing.jump m)
+    ∙ map-when (operates m) (hasTransfer m) (hasJump m) (listing.operation m) (transferText m) (listing.jump m)
     ∙ ap₂ (λ (x y : List Part). x ++ y) (when-same (operates m) (λ e. operation-back m (h .s) (h .f) (h .a) (h .b) .reads))
-    (ap₂ (λ (x y : List Part). x ++ y) (when-same (moves m) (λ e. transfer-back m .reads)) (when-same (jumps m) (λ e. jump-back m (there m e) (h .sq) (h .end) .reads)))
+    (ap₂ (λ (x y : List Part). x ++ y) (when-same (hasTransfer m) (λ e. transfer-back m .reads)) (when-same (hasJump m) (λ e. jump-back m (there m e) (h .sq) (h .end) .reads)))
 
 texts-mean : (m : Fields) → Within m → (eqb (m .rd) 1 && eqb (m .wr) 1) ≡ false → meaning nothing (parts (divided (tokens (spaced (texts m))))) ≡ Word (wordOf (normalFields m))
 unfolding meaning
 texts-mean m h apart =
     ap (meaning nothing) (texts-parts m h)
-    ∙ rw (none-foreign (operates m) (moves m) (jumps m) (target m) (m .f) (m .a) (second (m .f) (m .b)) (cond (eqb (m .rd) 1) 1 0) (cond (eqb (m .rd) 1) 0 1) (m .sq) (m .end), normal-given m h apart)
+    ∙ rw (none-foreign (operates m) (hasTransfer m) (hasJump m) (target m) (m .f) (m .a) (second (m .f) (m .b)) (cond (eqb (m .rd) 1) 1 0) (cond (eqb (m .rd) 1) 0 1) (m .sq) (m .end), normal-given m h apart)
     (settles m h apart)
 
 -- A listed line reads back.
 body-back : (k : ℕ) → k < 64 → (m : Fields) → Within m → (eqb (m .rd) 1 && eqb (m .wr) 1) ≡ false → line k (body k m) ≡ Word (wordOf (normalFields m))
 unfolding line numbered behindNumber same
 body-back k l m h apart =
-    rw (lt-ltb k 64 l) (ap (numbered k) (body-tokens k l m) ∙ rw (eq-eqb (number (decimal k)) k (number-back k l .value)) (texts-mean m h apart))
+    rw (lt-ltb k 64 l) (ap (numbered k) (body-tokens k l m) ∙ rw (eq-eqb (fromDecimal (shortDecimal k)) k (number-back k l .value)) (texts-mean m h apart))
 
 pub line-back : (k w : ℕ) → k < 64 → badWord w ≡ false → line k (body k (fieldsOf w)) ≡ Word (normalForm w)
 unfolding normalForm badWord
@@ -300,7 +294,7 @@ line-back k w l good = body-back k l (fieldsOf w) (fields-within w) (neither (le
 
 -- A line has three parts at most.
 pub texts-few : (m : Fields) → length (texts m) ≤ 3
-texts-few m = go (operates m) (moves m) (jumps m)
+texts-few m = go (operates m) (hasTransfer m) (hasJump m)
   where
     go : (o t j : Bool) → length (when o (listing.operation m) ++ (when t (transferText m) ++ when j (listing.jump m))) ≤ 3
     go true true true = omega arith

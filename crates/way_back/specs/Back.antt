@@ -1,11 +1,11 @@
--- Assembling a listing gives the normal forms (01, Micro text and images), over what the lister and the assembler promise.
+-- Assembling a listing gives the normal forms (01, Micro text and images), over what the lister and the microassembler promise.
 use Prim.Native.Nat.{ℕ}
 use mathlib.Core.Path.{_≡_}
 use mathlib.Core.List.{List, map}
 use lib.ListN.{length, take}
 use Rattle.microword.specs.Microword.{normalForm}
 use Rattle.lister.specs.Answers.{listed}
-use Rattle.assembler.specs.Assembled.{assembled}
+use Rattle.microassembler.specs.Assembled.{assembled}
 
 -- A store that the lister lists: its text is what stands at the room's start.
 abbrev pub text : List ℕ → List ℕ → List ℕ

@@ -1,8 +1,8 @@
 -- `put_counts` puts the three fields in turn.
 use native.Mathlib.Omega.{arith}
 use borrow.Author.Needs.{needs}
+use Rattle.text.proofs.Laid.{_then_}
 use Rattle.console.specs.Text.{counts}
-use Rattle.room.proofs.Laws.{_then_}
 use Rattle.console.proofs.put_counts.Statement.{statement}
 use Rattle.console.proofs.put_counts.Tie as tie
 

@@ -2,8 +2,8 @@
 use native.Mathlib.Omega.{arith}
 use mathlib.Core.Path.{_∙_}
 use borrow.Author.Needs.{needs}
+use Rattle.text.proofs.Laid.{wrote, same-text}
 use Rattle.console.proofs.Laws.{short, fewest}
-use Rattle.room.proofs.Laws.{wrote, same-text}
 use Rattle.console.proofs.put_decimal.Statement.{statement}
 use Rattle.console.proofs.put_decimal.Tie as tie
 

@@ -1,7 +1,7 @@
 -- `put_labelled` puts the label, then the number behind it.
 use native.Mathlib.Omega.{arith}
 use borrow.Author.Needs.{needs}
-use Rattle.room.proofs.Laws.{wrote, _then_}
+use Rattle.text.proofs.Laid.{wrote, _then_}
 use Rattle.console.proofs.put_labelled.Statement.{statement}
 use Rattle.console.proofs.put_labelled.Tie as tie
 

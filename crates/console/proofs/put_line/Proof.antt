@@ -5,8 +5,8 @@ use mathlib.Core.List.{[], _∷_}
 use native.Mathlib.Omega.{arith}
 use lib.ListN.{set, length-set}
 use borrow.Author.Needs.{needs}
-use Rattle.room.specs.Laid.{Wrote}
-use Rattle.room.proofs.Laws.{_then_}
+use Rattle.text.specs.Laid.{Wrote}
+use Rattle.text.proofs.Laid.{_then_}
 use Rattle.console.specs.Text.{line}
 use Rattle.console.proofs.put_line.Statement.{statement}
 use Rattle.console.proofs.put_line.Tie as tie

@@ -1,8 +1,8 @@
 -- `put_registers` puts the fields in turn.
 use native.Mathlib.Omega.{arith}
 use borrow.Author.Needs.{needs}
+use Rattle.text.proofs.Laid.{wrote, _then_}
 use Rattle.console.specs.Text.{registers}
-use Rattle.room.proofs.Laws.{wrote, _then_}
 use Rattle.console.proofs.put_registers.Statement.{statement}
 use Rattle.console.proofs.put_registers.Tie as tie
 

@@ -5,8 +5,8 @@ use mathlib.Core.List.{[], _∷_}
 use native.Mathlib.Omega.{arith}
 use lib.ListN.{set}
 use borrow.Author.Needs.{needs}
-use Rattle.room.specs.Laid.{Wrote}
-use Rattle.room.proofs.Laws.{_then_}
+use Rattle.text.specs.Laid.{Wrote}
+use Rattle.text.proofs.Laid.{_then_}
 use Rattle.console.specs.Text.{lines}
 use Rattle.console.proofs.put_word.Statement.{statement}
 use Rattle.console.proofs.put_word.Tie as tie

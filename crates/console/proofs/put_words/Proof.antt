@@ -6,7 +6,7 @@ use lib.ListN.{length, drop}
 use native.Mathlib.Omega.{arith}
 use mathlib.Core.Path.{_≡_, refl, sym, ap, _∙_}
 use Prim.Native.Nat.{ℕ, _+_, _-_, _*_, _≤_}
-use Rattle.room.proofs.Laws.{stored-on}
+use Rattle.text.proofs.Laid.{stored-on}
 use Rattle.console.proofs.Laws.{lines-next, lines-length, lines-end}
 use Rattle.console.specs.Text.{lines}
 use Rattle.console.proofs.put_words.Statement.{statement}

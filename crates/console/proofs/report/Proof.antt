@@ -7,8 +7,8 @@ use mathlib.Core.List.{List, _++_}
 use Prim.Native.Nat.{ℕ}
 use denote.Ref.{now}
 use borrow.Author.Needs.{needs}
+use Rattle.text.proofs.Laid.{_then_, same-text}
 use Rattle.console.specs.Text.{line, lines, report}
-use Rattle.room.proofs.Laws.{_then_, same-text}
 use Rattle.console.proofs.Laws.{shown-put, not-shown}
 use Rattle.console.proofs.report.Statement.{statement}
 use Rattle.console.proofs.report.Tie as tie

@@ -1,37 +1,36 @@
 -- `list` tests in the order of the answers, and the words that are shown are the store's first.
-use Prim.Native.Nat.{ℕ, _≤_}
-use mathlib.Core.List.{List}
-use lib.ListN.{length, take}
+use Prim.Native.Nat.{_≤_}
+use lib.ListN.{length}
 use mathlib.Core.Path.{_≡_, sym, ap, _∙_}
 use denote.Ref.{now}
 use native.Mathlib.Omega.{arith}
 use native.Mathlib.Nat.{zero-add}
-use borrow.Author.Tests.{eq-eqb, ne-eqb, lt-ltb, le-ltb}
+use borrow.Author.Tests.{lt-ltb, le-ltb}
 use borrow.Author.Needs.{needs}
-use Rattle.room.proofs.Laws.{same-text, all-of}
-use Rattle.lister.proofs.Laws.{shown-first, shown-le, past-room, all-done}
-use Rattle.microtext.specs.Listing.{lines, shown, listing}
+use Rattle.text.proofs.Laid.{same-text, all-of}
+use Rattle.store.specs.Store.{words}
+use Rattle.microtext.specs.Listing.{lines, listing}
 use Rattle.lister.specs.Answers.{listed}
+use Rattle.lister.proofs.Laws.{sized, first-shown, shown-le, past-room, all-done}
 use Rattle.lister.proofs.list.Statement.{statement}
 use Rattle.lister.proofs.list.Tie as tie
 
--- The words of the first `count` lines are those that are shown.
-first : (store : List ℕ) (count : ℕ) → count ≡ length (shown store) → take count store ≡ shown store
-first store count e = ap (λ (n : ℕ). take n store) e ∙ shown-first store
+is-wrong-requires : tie.Need-is-wrong-requires
+is-wrong-requires c κs = search needs
 
 refused-requires : tie.Need-refused-requires
 refused-requires c κs = search needs
 
 returns : tie.Need-returns
 unfolding listed
-returns c = rw (c .refused .ensures, ne-eqb _ _ (c .before .if1 .taken))
+returns c = rw (c .refused .ensures, sym (c .before .before .is-wrong .ensures) ∙ c .before .if1 .taken)
 
 refused-requires-2 : tie.Need-refused-requires-2
 refused-requires-2 c κs = search needs
 
 returns-2 : tie.Need-returns-2
 unfolding listed
-returns-2 c = rw (c .refused2 .ensures, eq-eqb _ _ (c .before .before .if1 .left), lt-ltb _ _ (c .before .if2 .taken))
+returns-2 c = rw (c .refused2 .ensures, sym (c .before .before .before .is-wrong .ensures) ∙ c .before .before .if1 .left, lt-ltb _ _ (c .before .if2 .taken))
 
 first-bad-requires : tie.Need-first-bad-requires
 first-bad-requires c κs = search needs
@@ -44,47 +43,68 @@ refused-requires-3 c κs = search needs
 
 returns-3 : tie.Need-returns-3
 unfolding listed
-returns-3 c = rw (c .refused3 .ensures, ← c .before .before .first-bad .ensures, eq-eqb _ _ (c .before .before .before .before .if1 .left), le-ltb _ _ (c .before .before .before .if2 .left), lt-ltb _ _ (c .before .if3 .taken))
+returns-3 c =
+    let b = c .before .before in
+    let store = now (b .before .before .before .before .before .before .args .store) in
+    let right = sym (b .before .before .before .is-wrong .ensures) ∙ b .before .before .if1 .left in
+    rw (c .refused3 .ensures, ← b .first-bad .ensures, right, le-ltb _ _ (b .before .if2 .left), lt-ltb (b .first-bad .result) (length (words store)) (omega (arith, sized store right)))
 
 shown-words-requires : tie.Need-shown-words-requires
-shown-words-requires c κs = search needs
-
-slice-aggregate-words : tie.Need-slice-aggregate-words
-slice-aggregate-words c = c .before .shown-words .ensures ∙ sym (ap length (first (now (c .before .before .before .before .before .before .before .before .args .store)) (c .before .shown-words .result) (c .before .shown-words .ensures)))
+shown-words-requires c κs =
+    let w = c .before .before .before .before in
+    sized (now (w .before .before .before .args .store)) (sym (w .is-wrong .ensures) ∙ c .before .before .before .if1 .left)
 
 lines-length-requires : tie.Need-lines-length-requires
-lines-length-requires c κs = let store = now (c .before .before .before .before .before .before .before .before .args .store) in
-    omega (arith, ap length (first store (c .before .shown-words .result) (c .before .shown-words .ensures)), shown-le store)
+lines-length-requires c κs =
+    let w = c .before .before .before .before .before in
+    let store = now (w .before .before .before .args .store) in
+    let whole = sized store (sym (w .is-wrong .ensures) ∙ c .before .before .before .before .if1 .left) in
+    (omega (arith, c .shown-words .ensures, shown-le (words store), whole), omega (arith, c .shown-words .ensures, shown-le (words store)))
 
 refused-requires-4 : tie.Need-refused-requires-4
 refused-requires-4 c κs = search needs
 
 returns-4 : tie.Need-returns-4
-returns-4 c = let s = c .before .before .before .before .before .before .before .before .before .before .before in
+returns-4 c =
+    let n = c .before .before .before in
+    let w = n .before .before .before .before .before in
+    let s = w .before .before .before in
     let store = now (s .args .store) in
-    let e = ap (lines 0) (first store (c .before .before .before .before .shown-words .result) (c .before .before .before .before .shown-words .ensures)) in
-    rw (c .refused4 .ensures) (past-room store (now (s .args .room)) (c .before .before .before .before .before .before .before .before .if1 .left) (c .before .before .before .before .before .before .before .if2 .left) (omega (arith, c .before .before .before .before .before .before .first-bad .ensures, c .before .before .before .before .before .if3 .left)) (omega (arith, c .before .before .lines-length .ensures, ap length e)))
+    let e = ap (lines 0) (first-shown store (n .shown-words .result) (n .shown-words .ensures)) in
+    rw (c .refused4 .ensures)
+    (past-room store (now (s .args .room)) (sym (w .is-wrong .ensures) ∙ n .before .before .before .before .if1 .left) (n .before .before .before .if2 .left)
+    (omega (arith, n .before .before .first-bad .ensures, n .before .if3 .left)) (omega (arith, c .before .before .lines-length .ensures, ap length e)))
 
 put-lines-requires : tie.Need-put-lines-requires
-put-lines-requires c κs = let store = now (c .before .before .before .before .before .before .before .before .before .before .before .args .store) in
-    let e = first store (c .before .before .before .before .shown-words .result) (c .before .before .before .before .shown-words .ensures) in
-    (omega (arith, ap length e, shown-le store), omega (arith, c .before .before .lines-length .ensures))
+put-lines-requires c κs =
+    let n = c .before .before .before in
+    let w = n .before .before .before .before .before in
+    let store = now (w .before .before .before .args .store) in
+    let whole = sized store (sym (w .is-wrong .ensures) ∙ n .before .before .before .before .if1 .left) in
+    let few = shown-le (words store) in
+    (omega (arith, n .shown-words .ensures), omega (arith, n .shown-words .ensures), omega (arith, c .before .before .lines-length .ensures))
 
 same-length : tie.Need-same-length
 same-length c = search needs
 
 returns-5 : tie.Need-returns-5
-returns-5 c = let s = c .before .before .before .before .before .before .before .before .before .before .before .before .before .before in
+returns-5 c =
+    let n = c .before .before .before .before .before .before in
+    let w = n .before .before .before .before .before in
+    let s = w .before .before .before in
     let store = now (s .args .store) in
-    let e = ap (lines 0) (first store (c .before .before .before .before .before .before .before .shown-words .result) (c .before .before .before .before .before .before .before .shown-words .ensures)) in
-    let w = same-text e (c .before .before .put-lines .ensures) in
-    let fits : length (listing store) ≤ length (now (s .args .room)) = omega (arith, c .before .before .before .before .before .lines-length .ensures, ap length e) in
-    rw (all-of w fits, w .behind, zero-add) (all-done store (now (s .args .room)) (c .before .before .before .before .before .before .before .before .before .before .before .if1 .left) (c .before .before .before .before .before .before .before .before .before .before .if2 .left) (omega (arith, c .before .before .before .before .before .before .before .before .before .first-bad .ensures, c .before .before .before .before .before .before .before .before .if3 .left)) fits)
+    let e = ap (lines 0) (first-shown store (n .shown-words .result) (n .shown-words .ensures)) in
+    let put = same-text e (c .before .before .put-lines .ensures) in
+    let fits : length (listing (words store)) ≤ length (now (s .args .room)) = omega (arith, c .before .before .before .before .before .lines-length .ensures, ap length e) in
+    rw (all-of put fits, put .behind, zero-add)
+    (all-done store (now (s .args .room)) (sym (w .is-wrong .ensures) ∙ n .before .before .before .before .if1 .left) (n .before .before .before .if2 .left)
+    (omega (arith, n .before .before .first-bad .ensures, n .before .if3 .left)) fits)
 
 pub list-spec : {M : Type 1} → statement M
 list-spec =
     tie.close
     (tie.spec
+    is-wrong-requires
     refused-requires
     returns
     refused-requires-2
@@ -94,7 +114,6 @@ list-spec =
     refused-requires-3
     returns-3
     shown-words-requires
-    slice-aggregate-words
     lines-length-requires
     refused-requires-4
     returns-4

@@ -1,39 +1,47 @@
 -- `shown_words` leaves out last words whose normal form is 0, and stops at the first that is not.
 use Prim.Native.Nat.{_≤_}
 use denote.Ref.{now}
-use lib.Seq.{take-length}
+use lib.Seq.{take-all}
 use native.Mathlib.Omega.{arith}
 use lib.ListN.{length, take}
 use mathlib.Core.Path.{_≡_, sym, ap, _∙_}
 use Rattle.lister.proofs.Laws.{last-shown, last-hidden}
+use Rattle.microword.specs.Microword.{normalForm}
 use Rattle.microtext.specs.Listing.{shown}
+use Rattle.store.specs.Store.{words}
+use borrow.Author.Needs.{needs}
 use Rattle.lister.proofs.shown_words.Statement.{statement}
 use Rattle.lister.proofs.shown_words.Tie as tie
 
 abbrev Inv-loop : tie.InvT-loop
-Inv-loop store count₀ count = (count ≤ length store) × (shown (take count store) ≡ shown store)
+Inv-loop store count₀ count = (count ≤ length (words store)) × (count ≤ 64) × (shown (take count (words store)) ≡ shown (words store))
 
 abbrev μ-loop : tie.MeasureT-loop
 μ-loop store count₀ count = count
 
 loop-holds : tie.Need-loop-holds Inv-loop μ-loop
-loop-holds c = (omega arith, ap shown (take-length _))
+loop-holds c = (omega arith, omega arith, ap shown (take-all 64 (words (now (c .before .args .store))) (omega arith)))
 
-sub-word : tie.Need-sub-word Inv-loop μ-loop
-sub-word c = omega arith
+sub-t6 : tie.Need-sub-t6 Inv-loop μ-loop
+sub-t6 c = omega arith
 
-mul-word : tie.Need-mul-word Inv-loop μ-loop
-mul-word c = omega (arith, c .before .before .before .good .0 .1)
+cast-t7 : tie.Need-cast-t7 Inv-loop μ-loop
+cast-t7 c = omega arith
 
-shared-slice-read-word : tie.Need-shared-slice-read-word Inv-loop μ-loop
-shared-slice-read-word c = omega arith
+word-at-requires : tie.Need-word-at-requires Inv-loop μ-loop
+word-at-requires c κs = search needs
 
 normal-requires : tie.Need-normal-requires Inv-loop μ-loop
 normal-requires c κs = tt
 
 returns : tie.Need-returns Inv-loop μ-loop
-returns c = let l = c .before .before .before .before in
-    last-shown (now (l .before .before .args .store)) (l .loop .count) (c .before .before .before .loop-test .taken) (l .loop .inv .0) (λ e. c .if1 .taken (c .before .normal .ensures ∙ e)) ∙ ap length (l .loop .inv .1)
+returns c =
+    let l = c .before .before .before .before in
+    let w = c .before .before .word-at in
+    let n = c .before .normal in
+    last-shown (words (now (l .before .before .args .store))) (l .loop .count) (c .before .before .before .loop-test .taken) (l .loop .inv .0)
+    (λ e. c .if1 .taken (n .ensures ∙ ap normalForm (w .ensures) ∙ e))
+    ∙ ap length (l .loop .inv .2)
 
 sub-count : tie.Need-sub-count Inv-loop μ-loop
 sub-count c = omega arith
@@ -42,15 +50,21 @@ loop-less : tie.Need-loop-less Inv-loop μ-loop
 loop-less c = omega arith
 
 loop-again : tie.Need-loop-again Inv-loop μ-loop
-loop-again c = let l = c .before .before .before .before in (
-  omega arith,
-  last-hidden (now (l .before .before .args .store)) (l .loop .count) (c .before .before .before .loop-test .taken) (l .loop .inv .0) (sym (c .before .normal .ensures) ∙ c .if1 .left) ∙ l .loop .inv .1,
-)
+loop-again c =
+    let l = c .before .before .before .before in
+    let w = c .before .before .word-at in
+    let n = c .before .normal in (
+      omega arith,
+      omega arith,
+      last-hidden (words (now (l .before .before .args .store))) (l .loop .count) (c .before .before .before .loop-test .taken) (l .loop .inv .0)
+          (ap normalForm (sym (w .ensures)) ∙ sym (n .ensures) ∙ c .if1 .left)
+          ∙ l .loop .inv .2,
+    )
 
 returns-2 : tie.Need-returns-2 Inv-loop μ-loop
 unfolding shown
 returns-2 c = let e : c .before .loop .count ≡ 0 = omega arith in
-    e ∙ ap length (rw e at (c .before .loop .inv .1))
+    e ∙ ap length (rw e at (c .before .loop .inv .2))
 
 pub shown-words-spec : {M : Type 1} → statement M
 shown-words-spec =
@@ -59,9 +73,9 @@ shown-words-spec =
     Inv-loop
     μ-loop
     loop-holds
-    sub-word
-    mul-word
-    shared-slice-read-word
+    sub-t6
+    cast-t7
+    word-at-requires
     normal-requires
     returns
     sub-count

@@ -3,9 +3,9 @@ use mathlib.Core.Path.{refl}
 use native.Mathlib.Omega.{arith}
 use borrow.Author.Tests.{eq-eqb, ne-eqb}
 use borrow.Author.Needs.{needs}
-use Rattle.microline.specs.Pieces.{table, destinations}
 use Rattle.microline.proofs.Laws.{chosen-destination}
 use Rattle.microline.proofs.destination.Statement.{statement}
+use Rattle.microline.specs.Code.Pieces.{table, destinations}
 use Rattle.microline.proofs.destination.Tie as tie
 
 returns : tie.Need-returns

@@ -6,13 +6,14 @@ use borrow.Author.Tests.{lt-ltb, le-ltb}
 use borrow.Author.Needs.{needs}
 use mathlib.Core.List.{[], _∷_}
 use lib.ListN.{set, length-append, length-set}
-use Rattle.microtext.specs.Listing.{decimal, line}
-use Rattle.room.specs.Laid.{Wrote}
-use Rattle.room.proofs.Laws.{_then_, same-text}
-use Rattle.microline.specs.Pieces.{Small}
+use Rattle.microtext.specs.Listing.{line}
+use Rattle.text.specs.Laid.{Wrote}
+use Rattle.text.proofs.Laid.{_then_, same-text}
+use Rattle.text.specs.Decimal.{shortDecimal}
 use Rattle.microline.specs.Line.{laidLine}
 use Rattle.microline.proofs.Laws.{small, line-pieces, line-room, laid-line}
 use Rattle.microline.proofs.put_line.Statement.{statement}
+use Rattle.microline.specs.Code.Pieces.{Small}
 use Rattle.microline.proofs.put_line.Tie as tie
 
 returns : tie.Need-returns
@@ -37,35 +38,45 @@ put-parts-requires c κs = let f = c .before .before .before .before .before in
     let number = f .before .before .before .before .args .number in
     let fields : Small (f .fields-of .result) = rw (f .fields-of .ensures) (small _) in
     let n = c .before .before .before .put-number in
-    (fields, omega (arith, n .ensures .behind, n .kept .0, f .before .before .if1 .left, length-append (decimal number) (58 ∷ []), line-room number (f .fields-of .result) (fields .sq)))
+    (fields, omega (arith, n .ensures .behind, n .kept .0, f .before .before .if1 .left, length-append (shortDecimal number) (58 ∷ []), line-room number (f .fields-of .result) (fields .sq)))
 
 put-target-requires : tie.Need-put-target-requires
-put-target-requires c κs = let f = c .before .before .before .before .before .before .before .before .before in
+put-target-requires c κs =
+    let earlier = c .before .before .before .before .before .before .before .before in
+    let f = earlier .before in
     let number = f .before .before .before .before .args .number in
     let fields : Small (f .fields-of .result) = rw (f .fields-of .ensures) (small _) in
     let n = c .before .before .before .before .before .before .before .put-number in
     let p = c .before .before .before .put-parts in
-    (fields, omega (arith, n .ensures .behind, n .kept .0, p .ensures .behind, p .kept .0, f .before .before .if1 .left, length-append (decimal number) (58 ∷ []), line-room number (f .fields-of .result) (fields .sq)))
+    (fields, omega (arith, n .ensures .behind, n .kept .0, p .ensures .behind, p .kept .0, f .before .before .if1 .left, length-append (shortDecimal number) (58 ∷ []), line-room number (f .fields-of .result) (fields .sq)))
 
 slice-write-room : tie.Need-slice-write-room
-slice-write-room c = let f = c .before .before .before .before .before .before .before .before .before .before .before .before in
+slice-write-room c =
+    let earlier = c .before .before .before .before .before .before .before .before in
+    let f = earlier .before .before .before .before in
     let number = f .before .before .before .before .args .number in
     let fields : Small (f .fields-of .result) = rw (f .fields-of .ensures) (small _) in
-    let n = c .before .before .before .before .before .before .before .before .before .before .put-number in
+    let n = earlier .before .before .put-number in
     let p = c .before .before .before .before .before .before .put-parts in
     let t = c .before .before .put-target in
-    omega (arith, n .ensures .behind, n .kept .0, p .ensures .behind, p .kept .0, t .ensures .behind, t .kept .0, f .before .before .if1 .left, length-append (decimal number) (58 ∷ []), line-room number (f .fields-of .result) (fields .sq))
+    omega (arith, n .ensures .behind, n .kept .0, p .ensures .behind, p .kept .0, t .ensures .behind, t .kept .0, f .before .before .if1 .left, length-append (shortDecimal number) (58 ∷ []), line-room number (f .fields-of .result) (fields .sq))
 
 add-result : tie.Need-add-result
-add-result c = let t = c .before .before .put-target in
-    omega (arith, slice-write-room c, t .kept .0, c .before .before .before .before .before .before .put-parts .kept .0, c .before .before .before .before .before .before .before .before .before .before .put-number .kept .0)
+add-result c =
+    let earlier = c .before .before .before .before .before .before .before .before in
+    let t = c .before .before .put-target in
+    omega (arith, slice-write-room c, t .kept .0, c .before .before .before .before .before .before .put-parts .kept .0, earlier .before .before .put-number .kept .0)
 
 same-length : tie.Need-same-length
-same-length c = let t = c .before .before .put-target in
-    length-set (t .last .0) (t .result) 10 ∙ t .kept .0 ∙ c .before .before .before .before .before .before .put-parts .kept .0 ∙ c .before .before .before .before .before .before .before .before .before .before .put-number .kept .0
+same-length c =
+    let earlier = c .before .before .before .before .before .before .before .before in
+    let t = c .before .before .put-target in
+    length-set (t .last .0) (t .result) 10 ∙ t .kept .0 ∙ c .before .before .before .before .before .before .put-parts .kept .0 ∙ earlier .before .before .put-number .kept .0
 
 returns-3 : tie.Need-returns-3
-returns-3 c = let f = c .before .before .before .before .before .before .before .before .before .before .before .before in
+returns-3 c =
+    let earlier = c .before .before .before .before .before .before .before .before in
+    let f = earlier .before .before .before .before in
     let number = f .before .before .before .before .args .number in
     let fields : Small (f .fields-of .result) = rw (f .fields-of .ensures) (small _) in
     let t = c .before .before .put-target in
@@ -73,7 +84,7 @@ returns-3 c = let f = c .before .before .before .before .before .before .before 
     let word = f .before .before .before .before .args .word in
     laid-line number word (f .before .before .if1 .left) (f .before .if2 .left)
     (same-text (line-pieces number (f .fields-of .result) (fields .sq) ∙ ap (line number) (f .fields-of .ensures))
-    (c .before .before .before .before .before .before .before .before .before .before .put-number .ensures then c .before .before .before .before .before .before .put-parts .ensures then t .ensures then end))
+    (earlier .before .before .put-number .ensures then c .before .before .before .before .before .before .put-parts .ensures then t .ensures then end))
 
 pub put-line-spec : {M : Type 1} → statement M
 put-line-spec =

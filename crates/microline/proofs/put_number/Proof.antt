@@ -5,7 +5,7 @@ use native.Mathlib.Omega.{arith}
 use lib.ListN.{length-set}
 use borrow.Author.Tests.{lt-ltb, le-ltb}
 use borrow.Author.Needs.{needs}
-use Rattle.microtext.specs.Listing.{decimal}
+use Rattle.text.specs.Decimal.{shortDecimal}
 use Rattle.microline.proofs.put_number.Statement.{statement}
 use Rattle.microline.proofs.put_number.Tie as tie
 
@@ -16,14 +16,14 @@ cast-room : tie.Need-cast-room
 cast-room c = search needs
 
 slice-write-room : tie.Need-slice-write-room
-unfolding decimal
+unfolding shortDecimal
 slice-write-room c = omega (arith, rw (lt-ltb _ _ (c .if1 .taken)) at (c .before .pre .1))
 
 add-room-2 : tie.Need-add-room-2
 add-room-2 c = search needs
 
 slice-write-room-2 : tie.Need-slice-write-room-2
-unfolding decimal
+unfolding shortDecimal
 slice-write-room-2 c = simp length-set (omega (arith, rw (lt-ltb _ _ (c .if1 .taken)) at (c .before .pre .1)))
 
 add-result : tie.Need-add-result
@@ -33,7 +33,7 @@ same-length : tie.Need-same-length
 same-length c = search needs
 
 returns : tie.Need-returns
-unfolding decimal
+unfolding shortDecimal
 returns c = rw (lt-ltb _ _ (c .if1 .taken)) (record { stored = rw add-one refl; behind = refl })
 
 add-room-3 : tie.Need-add-room-3
@@ -43,7 +43,7 @@ cast-room-2 : tie.Need-cast-room-2
 cast-room-2 c = search needs
 
 slice-write-room-3 : tie.Need-slice-write-room-3
-unfolding decimal
+unfolding shortDecimal
 slice-write-room-3 c = omega (arith, rw (le-ltb _ _ (c .if1 .left)) at (c .before .pre .1))
 
 add-room-4 : tie.Need-add-room-4
@@ -56,14 +56,14 @@ add-room-5 : tie.Need-add-room-5
 add-room-5 c = search needs
 
 slice-write-room-4 : tie.Need-slice-write-room-4
-unfolding decimal
+unfolding shortDecimal
 slice-write-room-4 c = simp length-set (omega (arith, rw (le-ltb _ _ (c .if1 .left)) at (c .before .pre .1)))
 
 add-room-6 : tie.Need-add-room-6
 add-room-6 c = search needs
 
 slice-write-room-5 : tie.Need-slice-write-room-5
-unfolding decimal
+unfolding shortDecimal
 slice-write-room-5 c = simp length-set (omega (arith, rw (le-ltb _ _ (c .if1 .left)) at (c .before .pre .1)))
 
 add-result-2 : tie.Need-add-result-2
@@ -73,7 +73,7 @@ same-length-2 : tie.Need-same-length-2
 same-length-2 c = search needs
 
 returns-2 : tie.Need-returns-2
-unfolding decimal
+unfolding shortDecimal
 returns-2 c = rw (le-ltb _ _ (c .if1 .left)) (record { stored = simp unary-clauses refl; behind = refl })
 
 pub put-number-spec : {M : Type 1} → statement M

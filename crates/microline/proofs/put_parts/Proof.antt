@@ -3,9 +3,9 @@ use mathlib.Core.Path.{refl, ap}
 use native.Mathlib.Omega.{arith}
 use lib.ListN.{length}
 use borrow.Author.Needs.{needs}
-use Rattle.room.proofs.Laws.{same-text}
-use Rattle.microline.specs.Pieces.{texts, starts, table, destinations, signsBefore, signsBehind, seconds, transfers, jumpWords}
+use Rattle.text.proofs.Laid.{same-text}
 use Rattle.microline.proofs.put_parts.Statement.{statement}
+use Rattle.microline.specs.Code.Pieces.{texts, starts, table, destinations, signsBefore, signsBehind, seconds, transfers, jumpWords}
 use Rattle.microline.proofs.put_parts.Tie as tie
 
 parts-requires : tie.Need-parts-requires

@@ -7,10 +7,10 @@ use denote.Ref.{now}
 use lib.ListN.{length, getD, drop}
 use lib.Seq.{sets}
 use borrow.Author.Needs.{needs}
-use Rattle.room.proofs.Laws.{wrote, same-text, stored-on}
-use Rattle.microline.specs.Pieces.{spelt}
+use Rattle.text.proofs.Laid.{wrote, same-text, stored-on}
 use Rattle.microline.proofs.Laws.{table-entry, texts-known, starts-known, spelt-next, spelt-length, spelt-end, known-at}
 use Rattle.microline.proofs.put_pieces.Statement.{statement}
+use Rattle.microline.specs.Code.Pieces.{spelt}
 use Rattle.microline.proofs.put_pieces.Tie as tie
 
 abbrev Inv-loop : tie.InvT-loop
@@ -94,7 +94,9 @@ loop-less : tie.Need-loop-less Inv-loop μ-loop
 loop-less c = omega arith
 
 loop-again : tie.Need-loop-again Inv-loop μ-loop
-loop-again c = let l = c .before .before .before .before .before .before .before .before .before in
+loop-again c =
+    let earlier = c .before .before .before .before .before .before .before .before in
+    let l = earlier .before in
     let s = l .before .before .before .before .before in
     let k = getD (now (s .args .which)) (l .loop .i) 0 in
     let known : k < 47 = known-at (now (s .args .which)) (l .loop .i) (s .pre .1 .0) (c .before .before .before .before .before .before .before .before .loop-test .taken) in

@@ -3,9 +3,9 @@ use native.Mathlib.Omega.{arith}
 use lib.ListN.{length-append}
 use borrow.Author.Tests.{eq-eqb, ne-eqb}
 use borrow.Author.Needs.{needs}
-use Rattle.room.proofs.Laws.{nothing}
-use Rattle.microline.specs.Pieces.{target}
+use Rattle.text.proofs.Laid.{nothing}
 use Rattle.microline.proofs.put_target.Statement.{statement}
+use Rattle.microline.specs.Code.Pieces.{target}
 use Rattle.microline.proofs.put_target.Tie as tie
 
 returns : tie.Need-returns

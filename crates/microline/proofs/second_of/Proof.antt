@@ -3,9 +3,9 @@ use mathlib.Core.Path.{refl}
 use native.Mathlib.Omega.{arith}
 use borrow.Author.Needs.{needs}
 use Rattle.microword.specs.Microword.{binary}
-use Rattle.microline.specs.Pieces.{table, destinations, signsBefore, signsBehind, seconds, transfers, jumpWords}
 use Rattle.microline.proofs.Laws.{chosen-second}
 use Rattle.microline.proofs.second_of.Statement.{statement}
+use Rattle.microline.specs.Code.Pieces.{table, destinations, signsBefore, signsBehind, seconds, transfers, jumpWords}
 use Rattle.microline.proofs.second_of.Tie as tie
 
 cast-result : tie.Need-cast-result

@@ -3,8 +3,8 @@ use mathlib.Core.Path.{refl}
 use native.Mathlib.Omega.{arith}
 use borrow.Author.Tests.{eq-eqb, ne-eqb}
 use borrow.Author.Needs.{needs}
-use Rattle.microline.specs.Pieces.{table, destinations, signsBefore, signsBehind, seconds, transfers, jumpWords}
 use Rattle.microline.proofs.transfer.Statement.{statement}
+use Rattle.microline.specs.Code.Pieces.{table, destinations, signsBefore, signsBehind, seconds, transfers, jumpWords}
 use Rattle.microline.proofs.transfer.Tie as tie
 
 returns : tie.Need-returns

@@ -6,8 +6,8 @@ use Rattle.microtext.specs.Line.{foreign, add}
 use Rattle.part.specs.declared.Part.{Part}
 use Rattle.part.specs.declared.Part.the-variants.{Operation, Transfer, Jump, Foreign}
 use Rattle.microtext.specs.declared.Given.{Given}
-use Rattle.microtext.specs.Progress.{closed}
 use Rattle.microtext.proofs.closed.Statement.{statement}
+use Rattle.microtext.specs.Code.Progress.{closed}
 use Rattle.microtext.proofs.closed.Tie as tie
 
 -- A foreign part gives nothing.

@@ -1,7 +1,7 @@
 -- `concluded` makes the definition's tests in order.
 use borrow.Author.Needs.{needs}
-use Rattle.microtext.specs.Progress.{concluded}
 use Rattle.microtext.proofs.concluded.Statement.{statement}
+use Rattle.microtext.specs.Code.Progress.{concluded}
 use Rattle.microtext.proofs.concluded.Tie as tie
 
 finished-requires : tie.Need-finished-requires

@@ -1,8 +1,8 @@
 -- `taken` makes the definition's test.
 use borrow.Author.Tests.{eq-eqb, ne-eqb}
 use borrow.Author.Needs.{needs}
-use Rattle.microtext.specs.Progress.{taken}
 use Rattle.microtext.proofs.taken.Statement.{statement}
+use Rattle.microtext.specs.Code.Progress.{taken}
 use Rattle.microtext.proofs.taken.Tie as tie
 
 finished-requires : tie.Need-finished-requires

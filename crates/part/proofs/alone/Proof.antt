@@ -1,6 +1,6 @@
 -- `alone` makes the definition's test.
-use Rattle.part.specs.Place.{finished}
 use Rattle.part.proofs.alone.Statement.{statement}
+use Rattle.part.specs.Code.Stage.{finished}
 use Rattle.part.proofs.alone.Tie as tie
 
 returns : tie.Need-returns

@@ -1,6 +1,6 @@
 -- `completed` makes the definition's test.
-use Rattle.part.specs.Place.{completed}
 use Rattle.part.proofs.completed.Statement.{statement}
+use Rattle.part.specs.Code.Stage.{completed}
 use Rattle.part.proofs.completed.Tie as tie
 
 returns : tie.Need-returns

@@ -1,7 +1,7 @@
--- `finished` goes by the place, as the definition does.
+-- `finished` goes by the stage, as the definition does.
 use borrow.Author.Needs.{needs}
-use Rattle.part.specs.Place.{finished}
 use Rattle.part.proofs.finished.Statement.{statement}
+use Rattle.part.specs.Code.Stage.{finished}
 use Rattle.part.proofs.finished.Tie as tie
 
 enum-told : tie.Need-enum-told
@@ -19,8 +19,8 @@ enum-told-4 c = search needs
 enum-told-5 : tie.Need-enum-told-5
 enum-told-5 c = search needs
 
-enum-known-place : tie.Need-enum-known-place
-enum-known-place c = search needs
+enum-known-stage : tie.Need-enum-known-stage
+enum-known-stage c = search needs
 
 alone-requires : tie.Need-alone-requires
 alone-requires c κs = search needs
@@ -43,8 +43,8 @@ enum-told-10 c = search needs
 enum-told-11 : tie.Need-enum-told-11
 enum-told-11 c = search needs
 
-enum-known-place-2 : tie.Need-enum-known-place-2
-enum-known-place-2 c = search needs
+enum-known-stage-2 : tie.Need-enum-known-stage-2
+enum-known-stage-2 c = search needs
 
 enum-told-12 : tie.Need-enum-told-12
 enum-told-12 c = search needs
@@ -71,7 +71,7 @@ returns-5 c = simp (c .enum-told5 .given .1)
 
 returns-6 : tie.Need-returns-6
 unfolding finished
-returns-6 c = simp (c .before .before .place .given .1, c .alone .ensures)
+returns-6 c = simp (c .before .before .stage .given .1, c .alone .ensures)
 
 returns-7 : tie.Need-returns-7
 unfolding finished
@@ -99,7 +99,7 @@ returns-12 c = simp (c .enum-told11 .given .1)
 
 returns-13 : tie.Need-returns-13
 unfolding finished
-returns-13 c = simp (c .before .place2 .given .1)
+returns-13 c = simp (c .before .stage2 .given .1)
 
 returns-14 : tie.Need-returns-14
 unfolding finished
@@ -114,7 +114,7 @@ finished-spec =
     enum-told-3
     enum-told-4
     enum-told-5
-    enum-known-place
+    enum-known-stage
     alone-requires
     enum-told-6
     enum-told-7
@@ -122,7 +122,7 @@ finished-spec =
     enum-told-9
     enum-told-10
     enum-told-11
-    enum-known-place-2
+    enum-known-stage-2
     enum-told-12
     returns
     returns-2

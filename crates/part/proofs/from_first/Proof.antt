@@ -1,7 +1,7 @@
 -- `from_first` makes the definition's tests in order.
 use borrow.Author.Tests.{eq-eqb, ne-eqb}
-use Rattle.part.specs.Place.{fromFirst}
 use Rattle.part.proofs.from_first.Statement.{statement}
+use Rattle.part.specs.Code.Stage.{fromFirst}
 use Rattle.part.proofs.from_first.Tie as tie
 
 returns : tie.Need-returns

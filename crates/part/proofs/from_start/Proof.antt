@@ -1,8 +1,8 @@
 -- `from_start` makes the definition's tests in order.
 use borrow.Author.Tests.{eq-eqb, le-ltb, lt-ltb, ne-eqb}
 use borrow.Author.Needs.{needs}
-use Rattle.part.specs.Place.{fromStart}
 use Rattle.part.proofs.from_start.Statement.{statement}
+use Rattle.part.specs.Code.Stage.{fromStart}
 use Rattle.part.proofs.from_start.Tie as tie
 
 returns : tie.Need-returns

@@ -1,8 +1,10 @@
 -- `next_token` goes by the first byte that is no space; behind the spaces the same is scanned.
 use mathlib.Core.Path.{sym, ap, _∙_}
 use denote.Ref.{now}
-use Rattle.token.specs.Tokens.{letter, digit}
-use Rattle.token.proofs.Scan.{text-ends, line-ends, no-token}
+use Rattle.text.specs.Decimal.{digit}
+use Rattle.text.proofs.Lines.{text-ends, line-ends}
+use Rattle.token.specs.Tokens.{letter}
+use Rattle.token.proofs.Scan.{no-token}
 use borrow.Author.Needs.{needs}
 use Rattle.token.proofs.next_token.Statement.{statement}
 use Rattle.token.proofs.next_token.Tie as tie
@@ -50,7 +52,9 @@ number-from-requires c κs =
     (c .before .before .before .before .before .before .before .if1 .left, ap digit (sym e) ∙ sym (c .before .is-digit .ensures) ∙ c .if4 .taken)
 
 returns-4 : tie.Need-returns-4
-returns-4 c = c .number-from .ensures ∙ c .before .before .before .before .before .before .before .before .before .past-spaces .ensures .0
+returns-4 c =
+    let earlier = c .before .before .before .before .before .before .before .before in
+    c .number-from .ensures ∙ earlier .before .past-spaces .ensures .0
 
 sign-from-requires : tie.Need-sign-from-requires
 sign-from-requires c κs =
@@ -66,7 +70,9 @@ sign-from-requires c κs =
     )
 
 returns-5 : tie.Need-returns-5
-returns-5 c = c .sign-from .ensures ∙ c .before .before .before .before .before .before .before .before .before .past-spaces .ensures .0
+returns-5 c =
+    let earlier = c .before .before .before .before .before .before .before .before in
+    c .sign-from .ensures ∙ earlier .before .past-spaces .ensures .0
 
 pub next-token-spec : {M : Type 1} → statement M
 next-token-spec =

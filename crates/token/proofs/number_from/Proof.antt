@@ -1,13 +1,10 @@
 -- `number_from` takes digits as long as they come: the loop holds what `Run` says of digits.
-use mathlib.Core.Path.{sym, ap, _∙_}
 use Prim.Native.Nat.{_-_}
-use native.Mathlib.Omega.{arith}
 use lib.ListN.{length}
 use denote.Ref.{now}
-use borrow.Author.Tests.{not-true, not-false}
 use borrow.Author.Needs.{needs}
-use Rattle.token.specs.Tokens.{digit}
-use Rattle.token.proofs.Scan.{Run, digits, run-first, run-more, run-ends}
+use Rattle.text.specs.Decimal.{digit}
+use Rattle.token.proofs.Runs.{Run, digits, run-first, run-stops, run-more, run-over}
 use Rattle.token.proofs.number_from.Statement.{statement}
 use Rattle.token.proofs.number_from.Tie as tie
 
@@ -33,8 +30,7 @@ loop-holds : tie.Need-loop-holds Inv-loop μ-loop
 loop-holds c =
     let s = c .before .before .before in
     let w = c .wide in
-    run-first digit digits (now (s .args .text)) (s .args .at) (w .result) (s .pre .0) (w .ensures .0) (w .ensures .1)
-    (ap digit (w .ensures .0) ∙ s .pre .1)
+    run-first digit digits (now (s .args .text)) (s .args .at) (w .result) (s .pre .0) (w .ensures .0) (w .ensures .1) (s .pre .1)
 
 shared-slice-read-wide-2 : tie.Need-shared-slice-read-wide-2 Inv-loop μ-loop
 shared-slice-read-wide-2 c = search needs
@@ -47,10 +43,11 @@ is-digit-requires c κs = search needs
 
 returns : tie.Need-returns Inv-loop μ-loop
 returns c =
-    let s = c .before .before .before .before .before .before .before .before .before in
-    let l = c .before .before .before .before .before .loop in
-    run-ends digit digits (now (s .args .text)) (s .args .at) (l .token) (l .i) (l .inv)
-    (λ h. ap digit (sym (c .before .before .wide2 .ensures .0)) ∙ sym (c .before .is-digit .ensures) ∙ not-true _ (c .if1 .taken))
+    let b = c .before .before .before .before .before in
+    let s = b .before .before .before .before in
+    let w = c .before .before .wide2 in
+    let t = c .before .is-digit in
+    run-stops digit digits (now (s .args .text)) (s .args .at) (b .loop .token) (b .loop .i) (w .result) (t .result) (b .loop .inv) (w .ensures .0) (t .ensures) (c .if1 .taken)
 
 grown-requires : tie.Need-grown-requires Inv-loop μ-loop
 grown-requires c κs = (c .before .before .before .before .before .loop .inv .small, c .before .before .wide2 .ensures .1)
@@ -63,18 +60,18 @@ loop-less c = search needs
 
 loop-again : tie.Need-loop-again Inv-loop μ-loop
 loop-again c =
-    let s = c .before .before .before .before .before .before .before .before .before .before in
-    let l = c .before .before .before .before .before .before .loop in
+    let b = c .before .before .before .before .before .before in
+    let s = b .before .before .before .before in
     let w = c .before .before .before .wide2 in
-    run-more digit digits (now (s .args .text)) (l .i) (w .result) (c .before .before .before .before .before .loop-test .taken) (w .ensures .0) (w .ensures .1)
-    (sym (c .before .before .is-digit .ensures) ∙ not-false _ (c .before .if1 .left)) (s .args .at) (l .token) (c .grown .result) (l .inv)
-    (c .grown .ensures .0) (c .grown .ensures .1)
+    let t = c .before .before .is-digit in
+    run-more digit digits (now (s .args .text)) (s .args .at) (b .loop .token) (b .loop .i) (w .result) (t .result) (b .loop .inv) (w .ensures .0) (t .ensures) (c .grown .result)
+    (c .before .before .before .before .before .loop-test .taken) (w .ensures .1) (c .before .if1 .left) (c .grown .ensures .0) (c .grown .ensures .1)
 
 returns-2 : tie.Need-returns-2 Inv-loop μ-loop
 returns-2 c =
     let s = c .before .before .before .before .before in
     let l = c .before .loop in
-    run-ends digit digits (now (s .args .text)) (s .args .at) (l .token) (l .i) (l .inv) (λ h. absurd (omega arith))
+    run-over digit digits (now (s .args .text)) (s .args .at) (l .token) (l .i) (l .inv) (c .loop-test .left)
 
 pub number-from-spec : {M : Type 1} → statement M
 number-from-spec =

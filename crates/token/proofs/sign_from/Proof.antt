@@ -3,10 +3,10 @@ use mathlib.Core.Path.{sym, subst}
 use mathlib.Core.Logic.{⊎-elim}
 use native.Mathlib.Omega.{arith}
 use denote.Ref.{now}
-use Rattle.token.specs.Next.{BeginsSign}
 use Rattle.token.proofs.Scan.{sign-alone, sign-pair}
 use borrow.Author.Needs.{needs}
 use Rattle.token.proofs.sign_from.Statement.{statement}
+use Rattle.token.specs.Code.Numbers.{BeginsSign}
 use Rattle.token.proofs.sign_from.Tie as tie
 
 shared-slice-read-wide : tie.Need-shared-slice-read-wide

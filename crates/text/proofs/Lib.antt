@@ -1,0 +1,4 @@
+pub mod Same
+pub mod Lines
+pub mod Decimals
+pub mod Laid
