@@ -33,7 +33,7 @@ fn run_memory(memory: &mut [u16], room: &mut [u8]) -> usize
     let cp = cpu.cp;
     let pp = cpu.pp;
     let run = Run {
-        answer: run_answers::of_interpreter(answer),
+        answer: answer.number(),
         done: end.done,
         cycles: end.cycles,
         cp,
