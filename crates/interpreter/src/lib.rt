@@ -22,6 +22,21 @@ pub enum Answer {
     LogFull,
 }
 
+impl Answer {
+    // Document 01's number of it.
+    pub fn number(self) -> u32
+        ensures { λ r. ⌜ r ≡ number self ⌝ }
+    {
+        match self {
+            Answer::Done => 0,
+            Answer::Sizes => 1,
+            Answer::Places => 2,
+            Answer::Ranges => 3,
+            Answer::LogFull => 5,
+        }
+    }
+}
+
 // A run: the registers at its end, the instructions carried out, the sum of their cycles, and the answer.
 pub struct Ran {
     pub cpu: Cpu,

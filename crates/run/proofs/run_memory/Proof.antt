@@ -15,8 +15,8 @@ slice-aggregate-run-2 c = search needs
 run-requires : tie.Need-run-requires
 run-requires c κs = search needs
 
-of-interpreter-requires : tie.Need-of-interpreter-requires
-of-interpreter-requires c κs = search needs
+number-requires : tie.Need-number-requires
+number-requires c κs = search needs
 
 report-requires : tie.Need-report-requires
 report-requires c κs = search needs
@@ -29,8 +29,10 @@ same-length-2 c = search needs
 
 returns : tie.Need-returns
 unfolding ran
-returns c = let shown = front _ _ _ _ (c .before .before .before .before .before .before .before .before .before .before .before .before .before .before .before .before .before .before .pre) (c .before .before .report .ensures) in
-    ((rw (c .before .before .before .before .before .of-interpreter .ensures) at (shown .stands)) ∙ sym (ap reported (c .before .before .before .before .before .before .before .before .before .before .before .before .run .ensures)), shown .counted)
+returns c = let told = c .before .before .before .before .before in
+    let ran = told .before .before .before .before .before .before .before in
+    let shown = front _ _ _ _ (ran .before .before .before .before .before .before .pre) (c .before .before .report .ensures) in
+    ((rw (told .number .ensures) at (shown .stands)) ∙ sym (ap reported (ran .run .ensures)), shown .counted)
 
 pub run-memory-spec : {M : Type 1} → statement M
 run-memory-spec =
@@ -39,7 +41,7 @@ run-memory-spec =
     slice-aggregate-run
     slice-aggregate-run-2
     run-requires
-    of-interpreter-requires
+    number-requires
     report-requires
     same-length
     same-length-2
