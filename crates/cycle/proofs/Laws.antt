@@ -6,6 +6,12 @@ use mathlib.Core.List.{List}
 use lib.ListN.{getD, set}
 use lib.Seq.{set-set, set-getD}
 use lib.Dec.{eqb}
+use borrow.Author.Tests.{eqb-true}
+use Rattle.turns.specs.Turns.{Turn, settled}
+use Rattle.bus.specs.declared.Stop.{Stop}
+use Rattle.bus.specs.Stops.{number}
+use Rattle.bus.proofs.Laws.{number-only}
+use Rattle.datapath.specs.declared.Half.{Half}
 use Rattle.datapath.specs.declared.Moved.{Moved}
 use Rattle.datapath.specs.declared.Half.the-variants.{Nothing}
 use Rattle.datapath.specs.Transfer.{Transfer, moved, waits, transferred, leftIn}
@@ -15,19 +21,27 @@ use Rattle.microword.specs.declared.Fields.{Fields}
 use Rattle.microword.specs.Microword.{Layout, fieldsOf}
 use Rattle.microword.proofs.Laws.{WithinBy, Within, fields-within}
 use Rattle.word.proofs.Laws.{kept-below}
-use Rattle.cycle.specs.Cycle.{State, Cycled, result, stored, found, transfer, target, nextLine, arrived, driven, settled, cycleOn}
+use Rattle.word.proofs.Tests.{either}
+use Rattle.cycle.specs.Cycle.{State, result, stored, found, transfer, target, nextLine, arrived, driven, cycleOn}
 use Rattle.cycle.specs.Standing.{stepped, Beginning, beginningOn, beginning}
 use Rattle.cycle.specs.declared.Stepped.{Stepped}
 
+stepped-only : {line line′ place place′ count count′ : ℕ} {half half′ : Half} (stop stop′ : Stop) → line ≡ line′ → half ≡ half′ → place ≡ place′ → count ≡ count′
+    → number stop ≡ number stop′
+    → _≡_ {A = Stepped} (record { line = record { 0 = line }; half = half; place = place; count = count; stop = stop })
+    (record { line = record { 0 = line′ }; half = half′; place = place′; count = count′; stop = stop′ })
+stepped-only stop stop′ p q r t e = rw (p, q, r, t, number-only stop stop′ e)
+
 -- No second answer: a cycle's promise fixes what it hands back and all three lent lists.
-pub step-only : {d : Cycled} {r r′ : Stepped} {registers registers′ memory memory′ log log′ : List ℕ} → d ≡ stepped r registers memory log
+pub step-only : {d : Turn State} {r r′ : Stepped} {registers registers′ memory memory′ log log′ : List ℕ} → d ≡ stepped r registers memory log
     → d ≡ stepped r′ registers′ memory′ log′ → (r ≡ r′) × (registers ≡ registers′) × (memory ≡ memory′) × (log ≡ log′)
-step-only p q =
+step-only {r = r} {r′ = r′} p q =
     let e = sym p ∙ q in (
-      ap (λ (c : Cycled). record { line = record { 0 = c .next .line }; half = c .next .half; place = c .next .place; count = c .next .count; full = c .full }) e,
-      ap (λ (c : Cycled). c .next .registers) e,
-      ap (λ (c : Cycled). c .next .memory) e,
-      ap (λ (c : Cycled). c .next .log) e,
+      stepped-only (r .stop) (r′ .stop) (ap (λ (c : Turn State). c .next .line) e) (ap (λ (c : Turn State). c .next .half) e) (ap (λ (c : Turn State). c .next .place) e)
+          (ap (λ (c : Turn State). c .next .count) e) (ap (λ (c : Turn State). c .stop) e),
+      ap (λ (c : Turn State). c .next .registers) e,
+      ap (λ (c : Turn State). c .next .memory) e,
+      ap (λ (c : Turn State). c .next .log) e,
     )
 
 -- Putting back what stood in S undoes the store.
@@ -58,7 +72,7 @@ module _ (bits : ℕ) (m : Fields) (input : List ℕ) (s : State) {b : Beginning
       subst (λ (x : Beginning). set (x .registers) (x .fields .s) (x .stood) ≡ s .registers) first
       (restored m (result m (s .registers)) (s .registers) (eqb (m .hs) 1) refl)
 
-  module _ {r : Moved} {memory log : List ℕ} (moves : transferred (eqb (b .fields .rd) 1) (eqb (b .fields .wr) 1) input (s .half) (found (b .registers) s) ≡ moved r memory log) where
+  module _ (r : Moved) {memory log : List ℕ} (moves : transferred (eqb (b .fields .rd) 1) (eqb (b .fields .wr) 1) input (s .half) (found (b .registers) s) ≡ moved r memory log) where
     -- Without RD the transfer's RDM is the one that stands there.
     same-rdm : (rd : Bool) → eqb (b .fields .rd) 1 ≡ rd → cond rd (set (b .registers) 7 (r .rdm)) (b .registers) ≡ set (b .registers) 7 (r .rdm)
     same-rdm true e = refl
@@ -66,26 +80,26 @@ module _ (bits : ℕ) (m : Fields) (input : List ℕ) (s : State) {b : Beginning
         let w : r .rdm ≡ getD (b .registers) 7 0 = sym (ap (λ (x : Transfer). x .rdm) (rw e at moves)) ∙ rdm-stays (eqb (b .fields .wr) 1) input (s .half) (found (b .registers) s) in
         rw w (sym (set-getD (b .registers) 7 0))
 
-    pub carried : r .full ≡ false
+    pub carried : eqb (number (r .stop)) 0 ≡ true
         → cycleOn bits m input s
-        ≡ record { next = record { line = b .next; registers = cond (eqb (b .fields .rd) 1) (set (b .registers) 7 (r .rdm)) (b .registers); half = r .half; place = r .place; count = r .count; memory = memory; log = log }; full = false }
+        ≡ record { next = record { line = b .next; registers = cond (eqb (b .fields .rd) 1) (set (b .registers) 7 (r .rdm)) (b .registers); half = r .half; place = r .place; count = r .count; memory = memory; log = log }; stop = 0; cost = 1 }
     unfolding settled transfer
-    carried f = rw (goes-on, moves, f, same-rdm _ refl)
+    carried f = rw (goes-on, moves, f, same-rdm _ refl, eqb-true (number (r .stop)) 0 f)
 
     -- A refused transfer leaves memory and log as they were.
-    pub refused : r .full ≡ true
+    pub refused : eqb (number (r .stop)) 0 ≡ false
         → cycleOn bits m input s
-        ≡ record { next = record { line = s .line; registers = set (b .registers) (b .fields .s) (b .stood); half = s .half; place = s .place; count = s .count; memory = memory; log = log }; full = true }
+        ≡ record { next = record { line = s .line; registers = set (b .registers) (b .fields .s) (b .stood); half = s .half; place = s .place; count = s .count; memory = memory; log = log }; stop = number (r .stop); cost = cond (eqb (number (r .stop)) 0) 1 0 }
     unfolding settled transfer
     refused f =
-        let e : leftIn (moved r memory log) ≡ record { memory = s .memory; log = s .log; count = s .count; full = true } =
-        rw moves at (transfer-refused (eqb (b .fields .rd) 1) (eqb (b .fields .wr) 1) input (s .half) (found (b .registers) s) (ap (λ (x : Transfer). x .full) moves ∙ f)) in
+        let e : leftIn (moved r memory log) ≡ record { memory = s .memory; log = s .log; count = s .count; stop = number (r .stop) } =
+        rw moves at (transfer-refused (eqb (b .fields .rd) 1) (eqb (b .fields .wr) 1) input (s .half) (found (b .registers) s) (ap (λ (x : Transfer). eqb (x .stop) 0) moves ∙ f)) in
         rw (goes-on, moves, f, put-back, ap (λ (x : Left). x .memory) e, ap (λ (x : Left). x .log) e)
 
   -- Without RD and WR nothing is transferred, and RDM is what stands there.
   pub rests : (not (eqb (b .fields .rd) 1) && not (eqb (b .fields .wr) 1)) ≡ true
       → cycleOn bits m input s
-      ≡ record { next = record { line = b .next; registers = b .registers; half = Nothing; place = s .place; count = s .count; memory = s .memory; log = s .log }; full = false }
+      ≡ record { next = record { line = b .next; registers = b .registers; half = Nothing; place = s .place; count = s .count; memory = s .memory; log = s .log }; stop = 0; cost = 1 }
   unfolding settled transfer transferred waits
   rests e =
       let n : (eqb (b .fields .rd) 1 ≡ false) × (eqb (b .fields .wr) 1 ≡ false) = both (eqb (b .fields .rd) 1) (eqb (b .fields .wr) 1) e in
@@ -97,13 +111,9 @@ module _ (bits : ℕ) (m : Fields) (input : List ℕ) (s : State) {b : Beginning
       both false false e = (refl, refl)
 
 -- What holds before a cycle and after what its control word drives holds after the cycle.
-pub settled-keeps : (P : State → Type 0) (s : State) (c : Cycled) → P s → P (c .next) → P (settled s c .next)
+pub settled-keeps : (P : State → Type 0) (s : State) (t : Turn State) → P s → P (t .next) → P (settled s t .next)
 unfolding settled
-settled-keeps P s c h g = by (c .full)
-  where
-    by : (full : Bool) → P (cond full (record { next = s; full = true }) c .next)
-    by true = h
-    by false = g
+settled-keeps P s t h g = either (λ (x : Turn State). P (x .next)) (eqb (t .stop) 0) g h
 
 -- A cycle that starts at one of the lines ends at one.
 pub target-within : (bits : ℕ) (m : Fields) (jump : Bool) (line : ℕ) → m .end < 2 ^ bits → target bits m jump line < 2 ^ bits
@@ -111,8 +121,8 @@ unfolding target
 target-within bits m true line h = h
 target-within bits m false line h = kept-below bits (line + 1)
 
-pub line-within : (bits : ℕ) (m : Fields) (input : List ℕ) (s : State) {a : Cycled} → m .end < 2 ^ bits → s .line < 2 ^ bits → cycleOn bits m input s ≡ a → a .next .line < 2 ^ bits
+pub line-within : (bits : ℕ) (m : Fields) (input : List ℕ) (s : State) {a : Turn State} → m .end < 2 ^ bits → s .line < 2 ^ bits → cycleOn bits m input s ≡ a → a .next .line < 2 ^ bits
 unfolding cycleOn driven nextLine
 line-within bits m input s w h e =
-    subst (λ (c : Cycled). c .next .line < 2 ^ bits) e
+    subst (λ (c : Turn State). c .next .line < 2 ^ bits) e
     (settled-keeps (λ t. t .line < 2 ^ bits) s (driven bits m input s) h (target-within bits m _ (s .line) w))

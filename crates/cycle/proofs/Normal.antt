@@ -6,6 +6,7 @@ use mathlib.Core.List.{List}
 use lib.ListN.{getD, set}
 use lib.Dec.{eqb}
 use borrow.Author.Tests.{eqb-true}
+use Rattle.word.proofs.Tests.{both}
 use Rattle.datapath.specs.Result.{alu, negative, isZero, jumps, keeps}
 use Rattle.microword.specs.declared.Fields.{Fields}
 use Rattle.microword.specs.Microword.{fieldsOf, idle, binary, normalFields, normalForm}
@@ -57,11 +58,7 @@ same-line bits m value line = by (eqb (m .sq) 0) refl
 -- Where nothing asks for the result, any value gives the same store and the same line.
 module _ (m : Fields) (quiet : idle m ≡ true) where
   no-store : eqb (m .hs) 1 ≡ false
-  no-store = let z : m .hs ≡ 0 = eqb-true (m .hs) 0 (left (eqb (m .hs) 0) (eqb (m .sq) 0 || eqb (m .sq) 3) (unfold idle in quiet)) in rw z
-    where
-      left : (a b : Bool) → (a && b) ≡ true → a ≡ true
-      left true b e = refl
-      left false b e = e
+  no-store = let z : m .hs ≡ 0 = eqb-true (m .hs) 0 (both (eqb (m .hs) 0) (eqb (m .sq) 0 || eqb (m .sq) 3) (unfold idle in quiet) .0) in rw z
 
   idle-stored : (value value′ : ℕ) (registers : List ℕ) → stored m value registers ≡ stored m value′ registers
   unfolding stored

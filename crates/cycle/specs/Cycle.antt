@@ -1,9 +1,10 @@
 -- One cycle of the machine, driven by any control word (01, One cycle, in order).
 use Prim.Native.Nat.{ℕ}
-use mathlib.Core.Bool.{Bool, true, cond}
+use mathlib.Core.Bool.{Bool, cond}
 use mathlib.Core.List.{List}
 use lib.ListN.{getD, set}
 use lib.Dec.{eqb}
+use Rattle.turns.specs.Turns.{Turn, settled}
 use Rattle.word.specs.Number.{sum}
 use Rattle.bus.specs.Log.{Sent}
 use Rattle.datapath.specs.declared.Half.{Half}
@@ -59,13 +60,8 @@ target bits m jump line = cond jump (m .end) (sum bits line 1)
 unfoldable pub nextLine : ℕ → Fields → ℕ → ℕ → ℕ
 nextLine bits m value line = target bits m (jumps (m .sq) (negative value) (isZero value)) line
 
--- The state that follows, and whether its write met a full log.
-pub record Cycled : Type 0 where
-  pub next : State
-  pub full : Bool
-
--- A transfer's RDM goes over anything the cycle stored there.
-abbrev pub arrived : ℕ → List ℕ → Transfer → Cycled
+-- What a cycle comes to by its transfer, whose RDM goes over anything the cycle stored there.
+abbrev pub arrived : ℕ → List ℕ → Transfer → Turn State
 arrived line registers t =
     record {
       next =
@@ -78,22 +74,19 @@ arrived line registers t =
             memory = t .memory;
             log = t .log;
           };
-      full = t .full;
+      stop = t .stop;
+      cost = 1;
     }
 
 -- What the fields of a control word drive.
-unfoldable pub driven : ℕ → Fields → List ℕ → State → Cycled
+unfoldable pub driven : ℕ → Fields → List ℕ → State → Turn State
 driven bits m input s =
     let value : ℕ = result m (s .registers) in
     let registers : List ℕ = stored m value (s .registers) in
     arrived (nextLine bits m value (s .line)) registers (transfer m input registers s)
 
--- A refused cycle leaves the state before it.
-unfoldable pub settled : State → Cycled → Cycled
-settled s c = cond (c .full) (record { next = s; full = true }) c
-
--- A cycle by the fields of a control word; lines have so many bits.
-unfoldable pub cycleOn : ℕ → Fields → List ℕ → State → Cycled
+-- A cycle by the fields of a control word, where lines have so many bits; a refused one leaves the state before it.
+unfoldable pub cycleOn : ℕ → Fields → List ℕ → State → Turn State
 cycleOn bits m input s = settled s (driven bits m input s)
 
 -- The write that it completes, if any.
@@ -101,7 +94,7 @@ unfoldable pub writesOn : Fields → State → List Sent
 writesOn m s = sends (eqb (m .rd) 1) (eqb (m .wr) 1) (s .half) (found (stored m (result m (s .registers)) (s .registers)) s)
 
 -- The cycle of a control word of 23 bits; after line 63 comes 0.
-abbrev pub cycleOf : ℕ → List ℕ → State → Cycled
+abbrev pub cycleOf : ℕ → List ℕ → State → Turn State
 cycleOf word input s = cycleOn 6 (fieldsOf word) input s
 
 abbrev pub writtenBy : ℕ → State → List Sent

@@ -1,12 +1,16 @@
 -- The machine taken apart for the code: what a cycle finds and what it leaves, each in a variable of its own.
 use mathlib.Core.List.{List}
 use Prim.Native.Nat.{ℕ}
+use mathlib.Core.Bool.{cond}
 use lib.ListN.{getD}
+use lib.Dec.{eqb}
+use Rattle.turns.specs.Turns.{Turn}
+use Rattle.bus.specs.Stops.{number}
 use Rattle.datapath.specs.declared.Half.{Half}
 use Rattle.microword.specs.declared.Fields.{Fields}
 use Rattle.microword.specs.Microword.{fieldsOf}
 use Rattle.word.specs.declared.Line.{Line}
-use Rattle.cycle.specs.Cycle.{State, Cycled, result, stored, nextLine}
+use Rattle.cycle.specs.Cycle.{State, result, stored, nextLine}
 use Rattle.cycle.specs.declared.Begun.{Begun}
 use Rattle.cycle.specs.declared.Stepped.{Stepped}
 
@@ -22,11 +26,12 @@ standing line half place count registers memory log =
       log = log;
     }
 
-abbrev pub stepped : Stepped → List ℕ → List ℕ → List ℕ → Cycled
+abbrev pub stepped : Stepped → List ℕ → List ℕ → List ℕ → Turn State
 stepped r registers memory log =
     record {
       next = standing (r .line) (r .half) (r .place) (r .count) registers memory log;
-      full = r .full;
+      stop = number (r .stop);
+      cost = cond (eqb (number (r .stop)) 0) 1 0;
     }
 
 -- A cycle once it has stored: the fields of its word, the line that follows, what stood in S, and the registers.

@@ -1,12 +1,14 @@
 // One cycle of the machine, driven by one control word.
 ghost use mathlib.Core.Path.{_≡_};
-ghost use mathlib.Core.Bool.{cond, false};
+ghost use mathlib.Core.Bool.{cond};
 ghost use lib.Dec.{eqb};
 ghost use lib.ListN.{set};
 ghost use Prim.Native.Nat.{_<_};
+ghost use Rattle.bus.specs.declared.Stop.the-variants.{GoesOn};
 ghost use Rattle.datapath.specs.declared.Half.the-variants.{Nothing};
 ghost use Rattle.cycle.specs.Cycle.{stored, nextLine, cycleOf};
 ghost use Rattle.cycle.specs.Standing.{standing, stepped, beginning, begun};
+use bus::Stop;
 use datapath::Half;
 use microword::Fields;
 use word::Address;
@@ -16,13 +18,13 @@ const REM: usize = 6;
 
 const RDM: usize = 7;
 
-// What a cycle leaves beside registers, memory and log, and whether its write met a full log.
+// What a cycle leaves beside registers, memory and log, and what stops it.
 pub struct Stepped {
     pub line: Line,
     pub half: Half,
     pub place: usize,
     pub count: usize,
-    pub full: bool,
+    pub stop: Stop,
 }
 
 fn next_line(m: Fields, value: u16, line: Line) -> Line
@@ -57,14 +59,14 @@ fn arrive(rd: u32, word: u16, registers: &mut [u16; 8])
 
 // A cycle with neither RD nor WR leaves nothing half done.
 fn rest(line: Line, place: usize, count: usize) -> Stepped
-    ensures { λ r. ⌜ r ≡ record { line = line; half = Nothing; place = place; count = count; full = false } ⌝ }
+    ensures { λ r. ⌜ r ≡ record { line = line; half = Nothing; place = place; count = count; stop = GoesOn } ⌝ }
 {
     Stepped {
         line,
         half: Half::Nothing,
         place,
         count,
-        full: false,
+        stop: Stop::GoesOn,
     }
 }
 
@@ -122,24 +124,25 @@ pub fn step(
         place,
         count,
     );
-    if moved.full {
-        let s = m.s as usize;
-        registers[s] = first.old;
+    let stop = moved.stop;
+    if stop.goes_on() {
+        arrive(m.rd, moved.rdm, registers);
+        let half = moved.half;
         return Stepped {
-            line,
+            line: next,
             half,
-            place,
-            count,
-            full: true,
+            place: moved.place,
+            count: moved.count,
+            stop: Stop::GoesOn,
         };
     }
-    arrive(m.rd, moved.rdm, registers);
-    let half = moved.half;
+    let s = m.s as usize;
+    registers[s] = first.old;
     Stepped {
-        line: next,
+        line,
         half,
-        place: moved.place,
-        count: moved.count,
-        full: false,
+        place,
+        count,
+        stop,
     }
 }

@@ -1,8 +1,9 @@
 // What any control word drives: the ALU, what a register keeps, the transfer that takes two cycles, and whether a test jumps.
 ghost use mathlib.Core.Path.{_≡_};
-ghost use mathlib.Core.Bool.{false};
 ghost use Rattle.datapath.specs.Result.{alu, negative, isZero, jumps, keeps};
-ghost use Rattle.datapath.specs.Transfer.{reads, writes, transferred, moved};
+ghost use Rattle.datapath.specs.Transfer.{readCycle, writeCycle, transferred, moved};
+ghost use Rattle.bus.specs.declared.Stop.the-variants.{GoesOn};
+use bus::Stop;
 use word::Address;
 
 // The bits that each register keeps: of CP, PP and REM the low 12.
@@ -15,13 +16,13 @@ pub enum Half {
     Write,
 }
 
-// What a transfer leaves beside memory and log.
+// What a transfer leaves beside memory and log, and what stops the machine before it.
 pub struct Moved {
     pub rdm: u16,
     pub half: Half,
     pub place: usize,
     pub count: usize,
-    pub full: bool,
+    pub stop: Stop,
 }
 
 // What F makes of A and B, modulo 65,536.
@@ -62,14 +63,14 @@ pub fn does_jump(sq: u32, result: u16) -> bool
 }
 
 fn left(half: Half, rdm: u16, place: usize, count: usize) -> Moved
-    ensures { λ r. ⌜ r ≡ record { rdm = rdm; half = half; place = place; count = count; full = false } ⌝ }
+    ensures { λ r. ⌜ r ≡ record { rdm = rdm; half = half; place = place; count = count; stop = GoesOn } ⌝ }
 {
     Moved {
         rdm,
         half,
         place,
         count,
-        full: false,
+        stop: Stop::GoesOn,
     }
 }
 
@@ -84,7 +85,7 @@ fn read_cycle(
     place: usize,
     count: usize,
 ) -> Moved
-    ensures { λ r. ⌜ reads (now (input .entry)) half (record { rem = rem .0; rdm = rdm; place = place; count = count; memory = now (memory .entry); log = now (log .entry) }) ≡ moved r (now (memory .entry)) (now (log .entry)) ⌝ }
+    ensures { λ r. ⌜ readCycle (now (input .entry)) half (record { rem = rem .0; rdm = rdm; place = place; count = count; memory = now (memory .entry); log = now (log .entry) }) ≡ moved r (now (memory .entry)) (now (log .entry)) ⌝ }
 {
     match half {
         Half::Read => {
@@ -106,17 +107,18 @@ fn write_cycle(
     place: usize,
     count: usize,
 ) -> Moved
-    ensures { λ r. ⌜ writes half (record { rem = rem .0; rdm = rdm; place = place; count = count; memory = now (memory .entry); log = now (log .entry) }) ≡ moved r (now (memory .exit)) (now (log .exit)) ⌝ }
+    ensures { λ r. ⌜ writeCycle half (record { rem = rem .0; rdm = rdm; place = place; count = count; memory = now (memory .entry); log = now (log .entry) }) ≡ moved r (now (memory .exit)) (now (log .exit)) ⌝ }
 {
     match half {
         Half::Write => {
             let done = bus::write(memory, log, count, rem, rdm);
+            let stop = done.stop;
             Moved {
                 rdm,
                 half: Half::Nothing,
                 place,
                 count: done.count,
-                full: done.full,
+                stop,
             }
         }
         Half::Nothing => left(Half::Write, rdm, place, count),

@@ -18,20 +18,22 @@ use Rattle.bus.proofs.Laws.{kept, after-words}
 use Rattle.datapath.specs.declared.Half.{Half}
 use Rattle.datapath.specs.declared.Half.the-variants.{Nothing, Read, Write}
 use Rattle.datapath.specs.Result.{keeps}
-use Rattle.datapath.specs.Transfer.{Found, Transfer, waits, completedRead, completedWrite, reads, writes, transferred, sends, foundIn, leftIn}
+use Rattle.datapath.specs.Transfer.{Found, Transfer, waits, completedRead, completedWrite, readCycle, writeCycle, transferred, sends, foundIn, leftIn}
 use Rattle.datapath.proofs.Laws.{transfer-leaves}
 use Rattle.microword.specs.declared.Fields.{Fields}
-use Rattle.microword.specs.Microword.{fieldsOf, firstBad}
+use Rattle.microword.specs.Microword.{fieldsOf}
 use Rattle.microword.proofs.Laws.{fields-within}
+use Rattle.word.proofs.Tests.{neither, not-false, either}
 use Rattle.turns.proofs.Laws as T
+use Rattle.store.specs.Store.{wrongStore, controlWord, firstBad}
 use Rattle.cycle.specs.Cycle.{State, register, result, stored, found, transfer, nextLine, driven, cycleOn}
 use Rattle.cycle.proofs.Laws.{settled-keeps, target-within}
-use Rattle.engine.specs.Run.{Said, says, refusalBy, refusal, controlWord, cycle, turn, cycles}
+use Rattle.engine.specs.Run.{Said, says, refusalBy, refusal, cycle, cycles}
 
--- The facts behind "refusal 0", for a store of any size and lines of any number of bits.
-pub record AdmittedBy (size bits bad : ℕ) (store input : List ℕ) (s : State) : Type 0 where
+-- The facts behind "refusal 0", for lines of any number of bits.
+pub record AdmittedBy (bits : ℕ) (wrong : Bool) (bad : ℕ) (input : List ℕ) (s : State) : Type 0 where
   pub words : length (s .memory) ≡ 4096
-  pub lines : length store ≡ size
+  pub lines : wrong ≡ false
   pub place : s .place ≤ length input
   pub count : s .count ≤ length (s .log)
   pub cp : register 0 s < 4096
@@ -41,7 +43,7 @@ pub record AdmittedBy (size bits bad : ℕ) (store input : List ℕ) (s : State)
   pub good : 2 ^ bits ≤ bad
 
 abbrev pub Admitted : List ℕ → List ℕ → State → Type 0
-Admitted store input s = AdmittedBy 64 6 (firstBad store) store input s
+Admitted store input s = AdmittedBy 6 (wrongStore store) (firstBad store) input s
 
 -- Four tests in turn let a state through only where none holds.
 tests-pass : (a b c d : Bool) (k : ℕ) → cond a (says 1) (cond b (says 2) (cond c (says 3) (cond d (record { number = 4; line = k }) (says 0)))) ≡ says 0
@@ -52,50 +54,37 @@ tests-pass false false true d k e = let z : ⊥ = omega (arith, ap (λ (x : Said
 tests-pass false false false true k e = let z : ⊥ = omega (arith, ap (λ (x : Said). x .number) e) in absurd z
 tests-pass false false false false k e = (refl, refl, refl, refl)
 
-or-left : (a b : Bool) → (a || b) ≡ false → a ≡ false
-or-left true b e = e
-or-left false b e = refl
-
-or-right : (a b : Bool) → (a || b) ≡ false → b ≡ false
-or-right true b e = absurd (true≢false e)
-or-right false b e = e
-
-not-false : (a : Bool) → not a ≡ false → a ≡ true
-not-false true e = refl
-not-false false e = absurd (true≢false e)
-
-pub admitted-by : (size bits bad : ℕ) (store input : List ℕ) (s : State) → refusalBy size bits bad store input s ≡ says 0 → AdmittedBy size bits bad store input s
+pub admitted-by : (bits : ℕ) (wrong : Bool) (bad : ℕ) (input : List ℕ) (s : State) → refusalBy bits wrong bad input s ≡ says 0 → AdmittedBy bits wrong bad input s
 unfolding refusalBy
-admitted-by size bits bad store input s e =
+admitted-by bits wrong bad input s e =
     let a : Bool = not (eqb (length (s .memory)) 4096) in
-    let b : Bool = not (eqb (length store) size) in
     let p : Bool = ltb (length input) (s .place) in
     let q : Bool = ltb (length (s .log)) (s .count) in
     let u : Bool = ltb 4095 (register 0 s) in
     let v : Bool = ltb 4095 (register 2 s) in
     let w : Bool = ltb 4095 (register 6 s) in
     let l : Bool = ltb (2 ^ bits - 1) (s .line) in
-    let t = tests-pass (a || b) (p || q) (u || v || w || l) (ltb bad (2 ^ bits)) bad e in
-    let uvw : (u || v || w) ≡ false = or-left (u || v || w) l (t .2) in
-    let uv : (u || v) ≡ false = or-left (u || v) w uvw in
+    let t = tests-pass (a || wrong) (p || q) (u || v || w || l) (ltb bad (2 ^ bits)) bad e in
+    let uvw : (u || v || w) ≡ false = neither (u || v || w) l (t .2) .0 in
+    let uv : (u || v) ≡ false = neither (u || v) w uvw .0 in
     record {
-      words = eqb-true (length (s .memory)) 4096 (not-false _ (or-left a b (t .0)));
-      lines = eqb-true (length store) size (not-false _ (or-right a b (t .0)));
-      place = ltb-false (length input) (s .place) (or-left p q (t .1));
-      count = ltb-false (length (s .log)) (s .count) (or-right p q (t .1));
-      cp = omega (arith, ltb-false 4095 (register 0 s) (or-left u v uv));
-      pp = omega (arith, ltb-false 4095 (register 2 s) (or-right u v uv));
-      rem = omega (arith, ltb-false 4095 (register 6 s) (or-right (u || v) w uvw));
-      line = omega (arith, pow-pos bits, ltb-false (2 ^ bits - 1) (s .line) (or-right (u || v || w) l (t .2)));
+      words = eqb-true (length (s .memory)) 4096 (not-false _ (neither a wrong (t .0) .0));
+      lines = neither a wrong (t .0) .1;
+      place = ltb-false (length input) (s .place) (neither p q (t .1) .0);
+      count = ltb-false (length (s .log)) (s .count) (neither p q (t .1) .1);
+      cp = omega (arith, ltb-false 4095 (register 0 s) (neither u v uv .0));
+      pp = omega (arith, ltb-false 4095 (register 2 s) (neither u v uv .1));
+      rem = omega (arith, ltb-false 4095 (register 6 s) (neither (u || v) w uvw .1));
+      line = omega (arith, pow-pos bits, ltb-false (2 ^ bits - 1) (s .line) (neither (u || v || w) l (t .2) .1));
       good = ltb-false bad (2 ^ bits) (t .3);
     }
 
-pub unrefused-by : (size bits bad : ℕ) (store input : List ℕ) (s : State) → AdmittedBy size bits bad store input s → refusalBy size bits bad store input s ≡ says 0
+pub unrefused-by : (bits : ℕ) (wrong : Bool) (bad : ℕ) (input : List ℕ) (s : State) → AdmittedBy bits wrong bad input s → refusalBy bits wrong bad input s ≡ says 0
 unfolding refusalBy
-unrefused-by size bits bad store input s a =
+unrefused-by bits wrong bad input s a =
     rw (
       eq-eqb _ _ (a .words),
-      eq-eqb _ _ (a .lines),
+      a .lines,
       le-ltb _ _ (a .place),
       le-ltb _ _ (a .count),
       le-ltb 4095 (register 0 s) (omega (arith, a .cp)),
@@ -108,19 +97,15 @@ unrefused-by size bits bad store input s a =
 -- With 64 control words.
 pub admitted : (store input : List ℕ) (s : State) → refusal store input s ≡ says 0 → Admitted store input s
 unfolding refusal
-admitted store input s e = admitted-by 64 6 (firstBad store) store input s e
+admitted store input s e = admitted-by 6 (wrongStore store) (firstBad store) input s e
 
 pub unrefused : (store input : List ℕ) (s : State) → Admitted store input s → refusal store input s ≡ says 0
 unfolding refusal
-unrefused store input s a = unrefused-by 64 6 (firstBad store) store input s a
+unrefused store input s a = unrefused-by 6 (wrongStore store) (firstBad store) input s a
 
 -- The input place stays within the input.
 record Placed (input : List ℕ) (r : Fetched) : Type 0 where
   within : r .place ≤ length input
-
-either : (input : List ℕ) (q : Bool) (a b : Fetched) → Placed input a → Placed input b → Placed input (cond q a b)
-either input true a b x y = x
-either input false a b x y = y
 
 next-placed : (input : List ℕ) (place : ℕ) → place ≤ length input → Placed input (nextInput input place)
 unfolding nextInput
@@ -132,10 +117,10 @@ next-placed input place h = by (ltb place (length input)) refl
 
 read-placed : (memory input : List ℕ) (place : ℕ) (room : Bool) (x : ℕ) → place ≤ length input → Placed input (readAt memory input place room x)
 unfolding readAt
-read-placed memory input place room x h = search (either, next-placed) depth 9
+read-placed memory input place room x h = search (either (Placed input), next-placed) depth 9
 
 transfer-placed : (rd wr : Bool) (input : List ℕ) (half : Half) (at : Found) → at .place ≤ length input → transferred rd wr input half at .place ≤ length input
-unfolding transferred reads writes waits completedRead completedWrite
+unfolding transferred readCycle writeCycle waits completedRead completedWrite
 transfer-placed true wr input Nothing at h = h
 transfer-placed true wr input Read at h = read-placed (at .memory) input (at .place) _ (at .rem) h .within
 transfer-placed true wr input Write at h = h
@@ -160,10 +145,10 @@ stays-low m value word registers r other low h = rw (getD-set-other (stored m va
     by false = h
 
 -- What a good control word drives is admitted again.
-driven-admitted : (size bits bad : ℕ) (m : Fields) (store input : List ℕ) (s : State) → m .end < 2 ^ bits → AdmittedBy size bits bad store input s
-    → AdmittedBy size bits bad store input (driven bits m input s .next)
+driven-admitted : (bits : ℕ) (wrong : Bool) (bad : ℕ) (m : Fields) (input : List ℕ) (s : State) → m .end < 2 ^ bits → AdmittedBy bits wrong bad input s
+    → AdmittedBy bits wrong bad input (driven bits m input s .next)
 unfolding driven transfer nextLine
-driven-admitted size bits bad m store input s h a =
+driven-admitted bits wrong bad m input s h a =
     let value : ℕ = result m (s .registers) in
     let at : Found = found (stored m value (s .registers)) s in
     let t : Transfer = transferred (eqb (m .rd) 1) (eqb (m .wr) 1) input (s .half) at in
@@ -184,17 +169,17 @@ driven-admitted size bits bad m store input s h a =
     cut n = omega arith
 
 -- And so is what a cycle by such a word leaves.
-pub cycle-admitted-by : (size bits bad : ℕ) (m : Fields) (store input : List ℕ) (s : State) → m .end < 2 ^ bits → AdmittedBy size bits bad store input s
-    → AdmittedBy size bits bad store input (cycleOn bits m input s .next)
+pub cycle-admitted-by : (bits : ℕ) (wrong : Bool) (bad : ℕ) (m : Fields) (input : List ℕ) (s : State) → m .end < 2 ^ bits → AdmittedBy bits wrong bad input s
+    → AdmittedBy bits wrong bad input (cycleOn bits m input s .next)
 unfolding cycleOn
-cycle-admitted-by size bits bad m store input s h a =
-    settled-keeps (AdmittedBy size bits bad store input) s (driven bits m input s) a (driven-admitted size bits bad m store input s h a)
+cycle-admitted-by bits wrong bad m input s h a =
+    settled-keeps (AdmittedBy bits wrong bad input) s (driven bits m input s) a (driven-admitted bits wrong bad m input s h a)
 
 cycle-admitted : (store input : List ℕ) (s : State) → Admitted store input s → Admitted store input (cycle store input s .next)
 cycle-admitted store input s a =
-    cycle-admitted-by 64 6 (firstBad store) (fieldsOf (controlWord store (s .line))) store input s (fields-within (controlWord store (s .line)) .end) a
+    cycle-admitted-by 6 (wrongStore store) (firstBad store) (fieldsOf (controlWord store (s .line))) input s (fields-within (controlWord store (s .line)) .end) a
 
 -- A run from an admitted state ends in an admitted state.
 pub cycles-admitted : (store input : List ℕ) (n : ℕ) (s : State) → Admitted store input s → Admitted store input (cycles store input n s .state)
 unfolding cycles
-cycles-admitted store input n s a = T.keeps (turn store input) (Admitted store input) (cycle-admitted store input) n s a
+cycles-admitted store input n s a = T.keeps (cycle store input) (Admitted store input) (cycle-admitted store input) n s a

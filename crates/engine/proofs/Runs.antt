@@ -1,55 +1,35 @@
--- Laws of runs: a run in two parts, what a run does to memory and log, and no second answer.
-use Prim.Native.Nat.{ℕ, zero, suc, _+_, _-_, _≤_}
+-- Laws of the engine's runs: what a run does to memory and log, and no second answer.
+use Prim.Native.Nat.{ℕ, _-_, _≤_}
 use mathlib.Core.Path.{_≡_, refl, sym, _∙_, ap}
-use mathlib.Core.Bool.{Bool, true, false, cond, true≢false}
-use mathlib.Core.List.{List, [], _++_}
-use native.Mathlib.Nat.{zero-add, suc-add}
+use mathlib.Core.Bool.{Bool, false, cond}
+use mathlib.Core.List.{List, _++_}
 use native.Mathlib.Omega.{arith}
 use lib.ListN.{length, getD, take, drop, length-append}
 use lib.Seq.{take-all}
 use lib.Dec.{eqb}
+use borrow.Author.Tests.{ne-eqb}
+use Rattle.bus.specs.Stops.{number}
 use Rattle.bus.specs.Ports.{Left}
 use Rattle.bus.specs.Log.{Sent, after, toLog, room, Took}
-use Rattle.bus.proofs.Laws.{kept, after-append, after-ports, to-log-append}
+use Rattle.bus.proofs.Laws.{stopOf, stop-back, number-apart, kept, after-append, after-ports, to-log-append}
 use Rattle.microword.specs.Microword.{fieldsOf}
-use Rattle.turns.specs.Turns.{plus as T·plus}
 use Rattle.turns.proofs.Laws as T
+use Rattle.store.specs.Store.{controlWord}
 use Rattle.cycle.specs.Cycle.{State, writtenBy}
 use Rattle.cycle.proofs.Writes.{held, stays, cycle-writes, cycle-fits}
-use Rattle.engine.specs.Run.{Said, says, saying, Ended, controlWord, cycle, turn, ended, plus, cycles, writes, endedBy}
+use Rattle.engine.specs.Run.{Said, saying, Ended, cycle, cycles, writes, endedBy}
 use Rattle.engine.specs.declared.Answer.{Answer}
-use Rattle.engine.specs.declared.Answer.the-variants.{Done, Sizes, Places, Ranges, BadWord, LogFull}
+use Rattle.engine.specs.declared.Answer.the-variants.{Finished, WrongSize, PastEnd, OutOfRange, BadWord}
 use Rattle.engine.specs.declared.Machine.{Machine}
 use Rattle.engine.specs.declared.Ran.{Ran}
-
--- A run of n cycles that all were carried out.
-abbrev pub ran : ℕ → State → Ended
-ran n s = record { state = s; done = n; said = says 0 }
-
--- A run of a cycles and then b is a run of a + b, where no stop comes in the first.
-pub chained : (store input : List ℕ) (a b : ℕ) (s e : State) → cycles store input a s ≡ ran a e
-    → cycles store input (a + b) s ≡ plus a (cycles store input b e)
-unfolding cycles plus T·plus
-chained store input a b s e p =
-    ap ended (T.in-two (turn store input) a b s (ap (λ (r : Ended). r .said .number) p))
-    ∙ rw (ap (λ (r : Ended). r .done) p, ap (λ (r : Ended). r .state) p)
-
--- A turn that was not stopped, and one that was.
-carried : (full : Bool) → _≡_ {A = ℕ} (cond full 5 0) 0 → full ≡ false
-carried true e = let z : ⊥ = omega arith in absurd z
-carried false e = refl
-
-refused : (full : Bool) → eqb (cond full 5 0) 0 ≡ false → full ≡ true
-refused true e = refl
-refused false e = absurd (true≢false e)
 
 -- What a run does to memory and log is the writes that it completes.
 pub run-writes : (store input : List ℕ) (n : ℕ) (s : State) → held (cycles store input n s .state) ≡ after (writes store input n s) (held s)
 unfolding cycles writes after
 run-writes store input n s =
-    T.tells (turn store input) (λ s. writtenBy (controlWord store (s .line)) s) held after (λ y. refl) after-append
-    (λ s f. cycle-writes 6 (fieldsOf (controlWord store (s .line))) input s (carried _ f))
-    (λ s f. ap held (stays 6 (fieldsOf (controlWord store (s .line))) input s (refused _ f))) n s
+    T.tells (cycle store input) (λ s. writtenBy (controlWord store (s .line)) s) held after (λ y. refl) after-append
+    (λ s f. cycle-writes 6 (fieldsOf (controlWord store (s .line))) input s f)
+    (λ s f. ap held (stays 6 (fieldsOf (controlWord store (s .line))) input s f)) n s
 
 -- The words under the ports are never changed by a run.
 pub run-ports : (store input : List ℕ) (n : ℕ) (s : State) (place : ℕ) → 4092 ≤ place
@@ -61,18 +41,17 @@ run-ports store input n s place h =
 run-fits : (store input : List ℕ) (n : ℕ) (s : State) → s .count ≤ length (s .log) → length (toLog (writes store input n s)) ≤ room (held s)
 unfolding writes toLog
 run-fits store input n s h =
-    T.fits (turn store input) (λ s. writtenBy (controlWord store (s .line)) s) (λ s. s .count ≤ length (s .log)) (λ l. length (toLog l)) (λ s. room (held s)) refl
+    T.fits (cycle store input) (λ s. writtenBy (controlWord store (s .line)) s) (λ s. s .count ≤ length (s .log)) (λ l. length (toLog l)) (λ s. room (held s)) refl
     (λ a b. rw (to-log-append a b, length-append (toLog a) (toLog b))) one n s h
   where
-    one : (s : State) → turn store input s .stop ≡ 0 → s .count ≤ length (s .log)
+    one : (s : State) → cycle store input s .stop ≡ 0 → s .count ≤ length (s .log)
         → (length (toLog (writtenBy (controlWord store (s .line)) s)) ≤ room (held s))
         × (room (held (cycle store input s .next)) ≡ room (held s) - length (toLog (writtenBy (controlWord store (s .line)) s)))
         × (cycle store input s .next .count ≤ length (cycle store input s .next .log))
     one s f h =
         let m = fieldsOf (controlWord store (s .line)) in
-        let e : cycle store input s .full ≡ false = carried _ f in
-        let t : Took (toLog (writtenBy (controlWord store (s .line)) s)) (held s) (held (cycle store input s .next)) = rw (cycle-writes 6 m input s e) (kept (writtenBy (controlWord store (s .line)) s) (held s) h) in
-        (cycle-fits 6 m input s e, t .left, t .within)
+        let t : Took (toLog (writtenBy (controlWord store (s .line)) s)) (held s) (held (cycle store input s .next)) = rw (cycle-writes 6 m input s f) (kept (writtenBy (controlWord store (s .line)) s) (held s) h) in
+        (cycle-fits 6 m input s f, t .left, t .within)
 
 -- After a run the log is its former words followed, in order, by every word that the completed writes sent to 4094, and nothing else;
 -- the room past them is as found.
@@ -95,25 +74,25 @@ run-log store input n s h =
 -- The answer that an answer number and a line stand for.
 answerOf : Said → Answer
 answerOf s =
-    cond (eqb (s .number) 0) Done
-    (cond (eqb (s .number) 1) Sizes
-    (cond (eqb (s .number) 2) Places
-    (cond (eqb (s .number) 3) Ranges
+    cond (eqb (s .number) 1) WrongSize
+    (cond (eqb (s .number) 2) PastEnd
+    (cond (eqb (s .number) 3) OutOfRange
     (cond (eqb (s .number) 4) (BadWord (record { 0 = s .line }))
-    LogFull))))
+    (Finished (stopOf (s .number))))))
 
 answer-back : (answer : Answer) → answerOf (saying answer) ≡ answer
-unfolding answerOf saying
-answer-back Done = refl
-answer-back Sizes = refl
-answer-back Places = refl
-answer-back Ranges = refl
+unfolding answerOf
+answer-back (Finished stop) =
+    let apart : (k : ℕ) → 1 ≤ k → k ≤ 4 → eqb (number stop) k ≡ false = λ k l h. ne-eqb (number stop) k (number-apart stop k l h) in
+    rw (apart 1 (omega arith) (omega arith), apart 2 (omega arith) (omega arith), apart 3 (omega arith) (omega arith), apart 4 (omega arith) (omega arith), stop-back stop)
+answer-back WrongSize = refl
+answer-back PastEnd = refl
+answer-back OutOfRange = refl
 answer-back (BadWord line) = refl
-answer-back LogFull = refl
 
 -- Each answer has a number and a line of its own.
-pub same-answer : {answer answer′ : Answer} → saying answer ≡ saying answer′ → answer ≡ answer′
-same-answer {answer} {answer′} e = sym (answer-back answer) ∙ ap answerOf e ∙ answer-back answer′
+pub same-answer : (answer answer′ : Answer) → saying answer ≡ saying answer′ → answer ≡ answer′
+same-answer answer answer′ e = sym (answer-back answer) ∙ ap answerOf e ∙ answer-back answer′
 
 -- The machine record of a state; a control line is fixed by its number.
 abbrev pub machineIn : State → Machine
@@ -124,7 +103,7 @@ pub run-only : {d : Ended} {r r′ : Ran} {memory memory′ log log′ : List �
     → (r ≡ r′) × (memory ≡ memory′) × (log ≡ log′)
 run-only {d} {r} {r′} p q =
     let e = sym p ∙ q in
-    let a : r .answer ≡ r′ .answer = same-answer (ap (λ (x : Ended). x .said) e) in (
+    let a : r .answer ≡ r′ .answer = same-answer (r .answer) (r′ .answer) (ap (λ (x : Ended). x .said) e) in (
       rw (← a) (ap (λ (x : Ended). record { machine = machineIn (x .state); done = x .done; answer = r .answer }) e),
       ap (λ (x : Ended). x .state .memory) e,
       ap (λ (x : Ended). x .state .log) e,

@@ -1,10 +1,13 @@
-// The cycle engine for any control store: a run of cycles, and the panel's press.
+// The cycle engine for any control store: a run of cycles.
 ghost use mathlib.Core.Path.{_≡_};
-ghost use lib.ListN.{length};
-ghost use Prim.Native.Nat.{_<_};
-ghost use Rattle.engine.specs.Run.{refusal, saying, cycles, runs, press, stateOf, endedBy, pressedBy};
+ghost use Rattle.engine.specs.Run.{number, named, saying, refusal, cycles, ended, runs, stateOf, endedBy};
+use bus::Stop;
 use datapath::Half;
 use word::Line;
+
+const CP: usize = 0;
+
+const PP: usize = 2;
 
 const REM: usize = 6;
 
@@ -17,14 +20,38 @@ pub struct Machine {
     pub count: usize,
 }
 
-// What a run comes to: document 01's numbers 0 to 5.
+// What a run comes to: it is finished, done or stopped, or was refused before its first cycle.
 pub enum Answer {
-    Done,
-    Sizes,
-    Places,
-    Ranges,
+    Finished(Stop),
+    WrongSize,
+    PastEnd,
+    OutOfRange,
     BadWord(Line),
-    LogFull,
+}
+
+impl Answer {
+    // Document 01's number.
+    pub fn number(self) -> u32
+        ensures { λ r. ⌜ r ≡ number self ⌝ }
+    {
+        match self {
+            Answer::Finished(stop) => stop.number(),
+            Answer::WrongSize => 1,
+            Answer::PastEnd => 2,
+            Answer::OutOfRange => 3,
+            Answer::BadWord(_) => 4,
+        }
+    }
+
+    // The line that it names, else 0.
+    pub fn line(self) -> usize
+        ensures { λ r. ⌜ r ≡ named self ⌝ }
+    {
+        match self {
+            Answer::BadWord(line) => line.0 as usize,
+            _ => 0,
+        }
+    }
 }
 
 pub struct Ran {
@@ -33,32 +60,30 @@ pub struct Ran {
     pub answer: Answer,
 }
 
-// What a press comes to, and the machine after it.
-pub struct Pressed {
-    pub answer: Answer,
-    pub machine: Machine,
-}
-
 // Refusals 1 to 4, in order, or nothing to refuse.
 fn check(store: &[u32], memory: &[u16], input: &[u16], log: &[u16], machine: Machine) -> Answer
     ensures { λ r. ⌜ saying r ≡ refusal (now (store .entry)) (now (input .entry)) (stateOf machine (now (memory .entry)) (now (log .entry))) ⌝ }
 {
-    if (memory.len() != 4096) | (store.len() != 64) {
-        return Answer::Sizes;
+    if bus::is_wrong_memory(memory) | store::is_wrong(store) {
+        return Answer::WrongSize;
     }
-    if (input.len() < machine.place) | (log.len() < machine.count) {
-        return Answer::Places;
+    if bus::is_past_end(input, machine.place, log, machine.count) {
+        return Answer::PastEnd;
     }
     let registers = machine.registers;
     let line = machine.line;
-    if (4095 < registers[0]) | (4095 < registers[2]) | (4095 < registers[REM]) | (63 < line.0) {
-        return Answer::Ranges;
+    if bus::is_outside(registers[CP])
+        | bus::is_outside(registers[PP])
+        | bus::is_outside(registers[REM])
+        | (63 < line.0)
+    {
+        return Answer::OutOfRange;
     }
-    let bad = microword::first_bad(store);
+    let bad = store::first_bad(store);
     if bad < 64 {
         return Answer::BadWord(Line(bad as u8));
     }
-    Answer::Done
+    Answer::Finished(Stop::GoesOn)
 }
 
 fn report(
@@ -94,9 +119,7 @@ fn repeat(
     machine: Machine,
     n: u32,
 ) -> Ran
-    requires { ⌜ length (now store) ≡ 64 ⌝ }
-    requires { ⌜ machine .line .0 < 64 ⌝ }
-    ensures { λ r. ⌜ cycles (now (store .entry)) (now (input .entry)) n (stateOf machine (now (memory .entry)) (now (log .entry))) ≡ endedBy r (now (memory .exit)) (now (log .exit)) ⌝ }
+    ensures { λ r. ⌜ ended 0 (cycles (now (store .entry)) (now (input .entry)) n (stateOf machine (now (memory .entry)) (now (log .entry)))) ≡ endedBy r (now (memory .exit)) (now (log .exit)) ⌝ }
 {
     let mut registers = machine.registers;
     let mut line = machine.line;
@@ -105,9 +128,8 @@ fn repeat(
     let mut count = machine.count;
     let mut done: u32 = 0;
     while done < n {
-        let k = line.0 as usize;
         let t = cycle::step(
-            store[k],
+            store::word_at(store, line),
             memory,
             input,
             log,
@@ -121,12 +143,29 @@ fn repeat(
         half = t.half;
         place = t.place;
         count = t.count;
-        if t.full {
-            return report(line, half, place, count, registers, done, Answer::LogFull);
+        let stop = t.stop;
+        if !stop.goes_on() {
+            return report(
+                line,
+                half,
+                place,
+                count,
+                registers,
+                done,
+                Answer::Finished(stop),
+            );
         }
         done += 1;
     }
-    report(line, half, place, count, registers, done, Answer::Done)
+    report(
+        line,
+        half,
+        place,
+        count,
+        registers,
+        done,
+        Answer::Finished(Stop::GoesOn),
+    )
 }
 
 // A run of n cycles: refusals 1 to 4 before any cycle, then the cycles in turn.
@@ -141,28 +180,12 @@ pub fn run(
     ensures { λ r. ⌜ runs (now (store .entry)) (now (input .entry)) n (stateOf machine (now (memory .entry)) (now (log .entry))) ≡ endedBy r (now (memory .exit)) (now (log .exit)) ⌝ }
 {
     let answer = check(store, memory, input, log, machine);
-    match answer {
-        Answer::Done => repeat(store, memory, input, log, machine, n),
-        _ => Ran {
+    if answer.number() != 0 {
+        return Ran {
             machine,
             done: 0,
             answer,
-        },
+        };
     }
-}
-
-// One cycle a press: a run of 1.
-pub fn run_one(
-    machine: Machine,
-    memory: &mut [u16],
-    input: &[u16],
-    log: &mut [u16],
-    store: &[u32],
-) -> Pressed
-    ensures { λ r. ⌜ press (now (store .entry)) (now (input .entry)) (stateOf machine (now (memory .entry)) (now (log .entry))) ≡ pressedBy (r .answer) (r .machine) (now (memory .exit)) (now (log .exit)) ⌝ }
-{
-    let ran = run(store, memory, input, log, machine, 1);
-    let answer = ran.answer;
-    let machine = ran.machine;
-    Pressed { answer, machine }
+    repeat(store, memory, input, log, machine, n)
 }

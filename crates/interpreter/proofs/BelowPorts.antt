@@ -9,30 +9,33 @@ use borrow.Author.Tests.{lt-ltb}
 use Rattle.word.specs.Number.{field, kept, sum}
 use Rattle.bus.specs.declared.Fetched.{Fetched}
 use Rattle.bus.specs.Ports.{readAt, writeAt, goes, sent}
-use Rattle.instruction.specs.Instruction.{State, Act, at, sets, writes, gains, fetched, past, acted, action, instruct}
-use Rattle.interpreter.specs.BelowPorts.{Beside, Plain, Onward, stateWith, copies, returns, pops}
-use Rattle.interpreter.specs.Run.{instructions, plus}
+use Rattle.instruction.specs.Instruction.{State, at, sets, stores, gains, fetched, past, acted, action, instruct}
+use Rattle.interpreter.specs.Code.BelowPorts.{Beside, Plain, Onward, stateWith, copies, returns, pops}
+use Rattle.interpreter.specs.Run.{instructions}
 use Rattle.instruction.specs.Instruction.{stateOf}
 use Rattle.instruction.specs.declared.Cpu.{Cpu}
 use Rattle.interpreter.specs.declared.Stage.{Stage}
 use Rattle.interpreter.specs.declared.Registers.{Registers}
 use Rattle.interpreter.specs.declared.Passed.{Passed}
 use Rattle.instruction.proofs.Laws.{carried, paid}
-use Rattle.interpreter.proofs.Laws.{plus-none, plus-plus, goes-on}
+use Rattle.turns.specs.Turns.{Turn, plus}
+use Rattle.turns.proofs.Laws.{plus-none, plus-plus}
+use Rattle.bus.specs.Stops.{goesOn}
+use Rattle.interpreter.proofs.Laws.{goes-on}
 
 -- An instruction that met a port, and one that was done.
-module _ (acts : List ℕ → Beside → Act) (memory : List ℕ) where
+module _ (acts : List ℕ → Beside → Turn State) (memory : List ℕ) where
   pub stays : (own : Registers) (p : Passed) → p ≡ record { registers = own; met = true; cycles = 0 } → Plain acts memory p memory
   stays own p e = record { done = λ f. absurd (true≢false (sym (ap (λ (q : Passed). q .met) e) ∙ f)); undone = λ f. refl }
 
   pub passes : (left : List ℕ) (own : Registers) (cycles : ℕ) (p : Passed) → p ≡ record { registers = own; met = false; cycles = cycles }
-      → ((input : List ℕ) (b : Beside) → acts input b ≡ record { next = stateWith own left b; full = false; cycles = cycles })
+      → ((input : List ℕ) (b : Beside) → acts input b ≡ record { next = stateWith own left b; stop = goesOn; cost = cycles })
       → Plain acts memory p left
   passes left own cycles p e h =
       record { done = λ f input b. rw e (h input b); undone = λ f. absurd (true≢false (sym f ∙ ap (λ (q : Passed). q .met) e)) }
 
 -- What holds of one action holds of another that is the same.
-pub as-well : (acts acts′ : List ℕ → Beside → Act) (memory : List ℕ) (p : Passed) (left : List ℕ)
+pub as-well : (acts acts′ : List ℕ → Beside → Turn State) (memory : List ℕ) (p : Passed) (left : List ℕ)
     → ((input : List ℕ) (b : Beside) → acts′ input b ≡ acts input b) → Plain acts memory p left → Plain acts′ memory p left
 as-well acts acts′ memory p left h q = record { done = λ f input b. h input b ∙ q .done f input b; undone = q .undone }
 
@@ -41,20 +44,20 @@ pub reads-below : (input : List ℕ) (s : State) (address : ℕ) → address < 4
 unfolding readAt
 reads-below input s address h = rw (lt-ltb address 4092 h)
 
-pub writes-below : (cycles : ℕ) (s : State) (cp pp place address word : ℕ) → address < 4092
-    → writes cycles s cp pp place address word
+pub stores-below : (cycles : ℕ) (s : State) (cp pp place address word : ℕ) → address < 4092
+    → stores cycles s cp pp place address word
     ≡ record {
       next = record { cp = cp; pp = pp; ac = s .ac; place = place; count = s .count; memory = set (s .memory) address word; log = s .log };
-      full = false;
-      cycles = cycles;
+      stop = goesOn;
+      cost = cycles;
     }
-unfolding writes writeAt goes sent
-writes-below cycles s cp pp place address word h = rw (lt-ltb address 4092 h)
+unfolding stores writeAt goes sent
+stores-below cycles s cp pp place address word h = rw (lt-ltb address 4092 h)
 
 module _ (own : Registers) (memory : List ℕ) (input : List ℕ) (b : Beside) where
   pub gains-below : (cycles address : ℕ) (f : ℕ → ℕ) → address < 4092
       → gains cycles input (stateWith own memory b) address f
-      ≡ record { next = stateWith (record { cp = own .cp; ac = f (getD memory address 0); pp = own .pp }) memory b; full = false; cycles = cycles }
+      ≡ record { next = stateWith (record { cp = own .cp; ac = f (getD memory address 0); pp = own .pp }) memory b; stop = goesOn; cost = cycles }
   unfolding gains sets
   gains-below cycles address f h = rw (reads-below input (stateWith own memory b) address h)
 
@@ -62,8 +65,8 @@ module _ (own : Registers) (memory : List ℕ) (input : List ℕ) (b : Beside) w
       → returns input (stateWith own memory b)
       ≡ record {
         next = stateWith (record { cp = record { 0 = kept 12 (getD memory (own .pp .0) 0) }; ac = own .ac; pp = record { 0 = sum 12 (own .pp .0) 1 } }) memory b;
-        full = false;
-        cycles = 9;
+        stop = goesOn;
+        cost = 9;
       }
   unfolding sets
   returns-below h = rw (reads-below input (stateWith own memory b) (own .pp .0) h)
@@ -72,14 +75,14 @@ module _ (own : Registers) (memory : List ℕ) (input : List ℕ) (b : Beside) w
       → pops input (stateWith own memory b)
       ≡ record {
         next = stateWith (record { cp = own .cp; ac = getD memory (own .pp .0) 0; pp = record { 0 = sum 12 (own .pp .0) 1 } }) memory b;
-        full = false;
-        cycles = 10;
+        stop = goesOn;
+        cost = 10;
       }
   unfolding sets
   pops-below h = rw (reads-below input (stateWith own memory b) (own .pp .0) h)
 
   pub copies-below : (pp from to : ℕ) → from < 4092
-      → copies input (stateWith own memory b) pp from to ≡ writes 11 (stateWith own memory b) (own .cp .0) pp (b .place) to (getD memory from 0)
+      → copies input (stateWith own memory b) pp from to ≡ stores 11 (stateWith own memory b) (own .cp .0) pp (b .place) to (getD memory from 0)
   copies-below pp from to h = rw (reads-below input (stateWith own memory b) from h)
 
   -- A fetch below the ports moves no place, so the instruction is its action on the registers with CP moved on.
@@ -124,7 +127,7 @@ pub paid-below : (own : Registers) (memory : List ℕ) (p : Passed) (later : Lis
     → Plain (λ input b. instruct input (stateWith own memory b)) memory p later → p .met ≡ false → p .cycles ≤ 11
 paid-below own memory p later q f =
     let b : Beside = record { place = 0; count = 0; log = [] } in
-    paid [] (stateWith own memory b) (record { next = stateWith (p .registers) later b; full = false; cycles = p .cycles }) (q .done f [] b)
+    paid [] (stateWith own memory b) (record { next = stateWith (p .registers) later b; stop = goesOn; cost = p .cycles }) (q .done f [] b)
 
 pub moves : (n : ℕ) (cpu : Cpu) (memory₀ : List ℕ) (own : Registers) (memory : List ℕ) (left cycles : ℕ) (p : Passed) (later : List ℕ)
     → Partly n cpu memory₀ own memory left cycles → 0 < left
@@ -141,7 +144,7 @@ moves n cpu memory₀ own memory left cycles p later q pos plain f words =
           let b : Beside = record { place = cpu .place; count = cpu .count; log = log } in
           q .same input log
           ∙ goes-on input left (n - left) cycles (stateWith own memory b)
-          (record { next = stateWith (p .registers) later b; full = false; cycles = p .cycles })
+          (record { next = stateWith (p .registers) later b; stop = goesOn; cost = p .cycles })
           pos (plain .done f input b) refl
           ∙ rw one
           );
@@ -155,12 +158,12 @@ rests n cpu memory₀ own memory left cycles part later q e r =
     rw (e, r) (record { within = q .within; spent = q .spent; words = q .words; same = q .same })
 
 -- An instruction through the ports, then a part below them.
-pub stage-on : (input : List ℕ) (n left cycles : ℕ) (s : State) (a : Act) (later : State) (left′ cycles′ : ℕ) → left ≤ n → 0 < left
-    → instruct input s ≡ a → a .full ≡ false → left′ ≤ left - 1
+pub stage-on : (input : List ℕ) (n left cycles : ℕ) (s : State) (a : Turn State) (later : State) (left′ cycles′ : ℕ) → left ≤ n → 0 < left
+    → instruct input s ≡ a → a .stop ≡ 0 → left′ ≤ left - 1
     → instructions input (left - 1) (a .next) ≡ plus ((left - 1) - left′) cycles′ (instructions input left′ later)
-    → plus (n - left) cycles (instructions input left s) ≡ plus (n - left′) (cycles + (a .cycles + cycles′)) (instructions input left′ later)
+    → plus (n - left) cycles (instructions input left s) ≡ plus (n - left′) (cycles + (a .cost + cycles′)) (instructions input left′ later)
 stage-on input n left cycles s a later left′ cycles′ h pos e f fewer o =
     let done : ((n - left) + 1) + ((left - 1) - left′) ≡ n - left′ = omega (arith, h, pos, fewer) in
-    let spent : (cycles + a .cycles) + cycles′ ≡ cycles + (a .cycles + cycles′) = omega arith in
+    let spent : (cycles + a .cost) + cycles′ ≡ cycles + (a .cost + cycles′) = omega arith in
     goes-on input left (n - left) cycles s a pos e f
-    ∙ rw (o, plus-plus ((n - left) + 1) (cycles + a .cycles) ((left - 1) - left′) cycles′ (instructions input left′ later), done, spent)
+    ∙ rw (o, plus-plus ((n - left) + 1) (cycles + a .cost) ((left - 1) - left′) cycles′ (instructions input left′ later), done, spent)

@@ -1,3 +1,2 @@
 pub mod Run
-pub mod Writes
-pub mod BelowPorts
+pub mod Code

@@ -4,35 +4,34 @@ ghost use mathlib.Core.Bool.{true, false};
 ghost use Prim.Native.Nat.{_≤_, _<_};
 ghost use lib.ListN.{length, getD};
 ghost use Rattle.word.specs.Number.{kept, sum, difference};
-ghost use Rattle.instruction.specs.Instruction.{gains, jumps, writes, action, instruct, stateOf};
+ghost use Rattle.instruction.specs.Instruction.{gains, branches, stores, action, instruct, stateOf};
 ghost use Rattle.interpreter.specs.Run.{number, refusal, instructions, runs, endedBy};
-ghost use Rattle.interpreter.specs.BelowPorts.{Plain, Onward, stateWith, pushes, copies, returns, pops};
+ghost use Rattle.interpreter.specs.Code.BelowPorts.{Plain, Onward, stateWith, pushes, copies, returns, pops};
+use bus::Stop;
 use instruction::Cpu;
 use word::Address;
 
 // The first port: below it an address is a word of memory.
 const PORTS: u16 = 4092;
 
-// What a run answers.
+// What a run comes to: it is finished, done or stopped, or was refused before its first instruction.
 pub enum Answer {
-    Done,
-    Sizes,
-    Places,
-    Ranges,
-    LogFull,
+    Finished(Stop),
+    WrongSize,
+    PastEnd,
+    OutOfRange,
 }
 
 impl Answer {
-    // Document 01's number of it.
+    // Document 01's number.
     pub fn number(self) -> u32
         ensures { λ r. ⌜ r ≡ number self ⌝ }
     {
         match self {
-            Answer::Done => 0,
-            Answer::Sizes => 1,
-            Answer::Places => 2,
-            Answer::Ranges => 3,
-            Answer::LogFull => 5,
+            Answer::Finished(stop) => stop.number(),
+            Answer::WrongSize => 1,
+            Answer::PastEnd => 2,
+            Answer::OutOfRange => 3,
         }
     }
 }
@@ -142,7 +141,7 @@ fn subtract_below(memory: &[u16], own: Registers, address: Address) -> Passed
 
 // A jump to a port is left undone too: where it is taken, the branch must not become a choice of values.
 fn jump_below(cycles: u64, memory: &[u16], own: Registers, x: Address) -> Passed
-    ensures { λ r. ⌜ Plain (λ input b. jumps cycles (stateWith own (now (memory .entry)) b) true (x .0)) (now (memory .entry)) r (now (memory .entry)) ⌝ }
+    ensures { λ r. ⌜ Plain (λ input b. branches cycles (stateWith own (now (memory .entry)) b) true (x .0)) (now (memory .entry)) r (now (memory .entry)) ⌝ }
 {
     if PORTS <= x.0 {
         return leave(own);
@@ -161,7 +160,7 @@ fn write_below(
     word: u16,
 ) -> Passed
     requires { ⌜ length (now memory) ≡ 4096 ⌝ }
-    ensures { λ r. ⌜ Plain (λ input b. writes cycles (stateWith own (now (memory .entry)) b) (cp .0) (pp .0) (b .place) (address .0) word) (now (memory .entry)) r (now (memory .exit)) ⌝ }
+    ensures { λ r. ⌜ Plain (λ input b. stores cycles (stateWith own (now (memory .entry)) b) (cp .0) (pp .0) (b .place) (address .0) word) (now (memory .entry)) r (now (memory .exit)) ⌝ }
 {
     if PORTS <= address.0 {
         return leave(own);
@@ -360,12 +359,13 @@ fn carry_out_all(memory: &mut [u16], input: &[u16], log: &mut [u16], cpu: Cpu, n
     while 0 < left {
         let acted = instruction::carry_out(memory, input, log, cpu);
         cpu = acted.cpu;
-        if acted.full {
+        let stop = acted.stop;
+        if !stop.goes_on() {
             return Ran {
                 cpu,
                 done: n - left,
                 cycles,
-                answer: Answer::LogFull,
+                answer: Answer::Finished(stop),
             };
         }
         let next = pass_below(memory, cpu, left - 1);
@@ -377,24 +377,24 @@ fn carry_out_all(memory: &mut [u16], input: &[u16], log: &mut [u16], cpu: Cpu, n
         cpu,
         done: n,
         cycles,
-        answer: Answer::Done,
+        answer: Answer::Finished(Stop::GoesOn),
     }
 }
 
-// Refusals 1 to 3, or Done.
+// Refusals 1 to 3, in order, or nothing to refuse.
 fn check(memory: &[u16], input: &[u16], log: &[u16], cpu: Cpu) -> Answer
     ensures { λ r. ⌜ refusal (now (input .entry)) (stateOf cpu (now (memory .entry)) (now (log .entry))) ≡ number r ⌝ }
 {
-    if memory.len() != 4096 {
-        return Answer::Sizes;
+    if bus::is_wrong_memory(memory) {
+        return Answer::WrongSize;
     }
-    if (input.len() < cpu.place) | (log.len() < cpu.count) {
-        return Answer::Places;
+    if bus::is_past_end(input, cpu.place, log, cpu.count) {
+        return Answer::PastEnd;
     }
-    if (4095 < cpu.cp.0) | (4095 < cpu.pp.0) {
-        return Answer::Ranges;
+    if bus::is_outside(cpu.cp.0) | bus::is_outside(cpu.pp.0) {
+        return Answer::OutOfRange;
     }
-    Answer::Done
+    Answer::Finished(Stop::GoesOn)
 }
 
 // A run of n instructions, refusals 1 to 3 first.
@@ -402,13 +402,13 @@ pub fn run(memory: &mut [u16], input: &[u16], log: &mut [u16], cpu: Cpu, n: u32)
     ensures { λ r. ⌜ runs (now (input .entry)) n (stateOf cpu (now (memory .entry)) (now (log .entry))) ≡ endedBy r (now (memory .exit)) (now (log .exit)) ⌝ }
 {
     let answer = check(memory, input, log, cpu);
-    match answer {
-        Answer::Done => carry_out_all(memory, input, log, cpu, n),
-        _ => Ran {
+    if answer.number() != 0 {
+        return Ran {
             cpu,
             done: 0,
             cycles: 0,
             answer,
-        },
+        };
     }
+    carry_out_all(memory, input, log, cpu, n)
 }

@@ -6,7 +6,8 @@ use lib.Dec.{ltb, eqb}
 use lib.ListN.{length, replicate}
 use Rattle.image.specs.Image.{Reading, reading}
 use Rattle.instruction.specs.Instruction.{State}
-use Rattle.interpreter.specs.Run.{Ended, runs}
+use Rattle.turns.specs.Turns.{Turned}
+use Rattle.interpreter.specs.Run.{runs}
 use Rattle.console.specs.Text.{refusal, report}
 use Rattle.console.specs.declared.Run.{Run}
 
@@ -15,12 +16,12 @@ abbrev pub started : List ℕ → State
 started memory = record { cp = 0; pp = 0; ac = 0; place = 0; count = 0; memory = memory; log = replicate 8 0 }
 
 -- Fields: answer number, instructions done, table cycles, registers, log count.
-abbrev pub fields : Ended → Run
+abbrev pub fields : Turned State → Run
 fields e =
     record {
-      answer = e .answer;
+      answer = e .stop;
       done = e .done;
-      cycles = e .cycles;
+      cycles = e .cost;
       cp = record { 0 = e .state .cp };
       pp = record { 0 = e .state .pp };
       ac = e .state .ac;
@@ -28,7 +29,7 @@ fields e =
     }
 
 -- The report of how a run ended.
-abbrev pub reported : Ended → List ℕ
+abbrev pub reported : Turned State → List ℕ
 reported e = report (fields e) (e .state .log)
 
 -- The report of a memory's run: no input, 1,000 instructions.

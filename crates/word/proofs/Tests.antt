@@ -1,8 +1,8 @@
 -- Tests and choices, once for the whole house: what a conjunction and a disjunction say of their halves, what holds of both sides of a
 -- choice, a table of cases, and a test of every number below a bound.
 use Prim.Native.Nat.{ℕ, zero, suc, _<_}
-use mathlib.Core.Path.{_≡_, refl, ap, _∙_}
-use mathlib.Core.Bool.{Bool, true, false, cond, _&&_, _||_, true≢false}
+use mathlib.Core.Path.{_≡_, refl, sym, ap, _∙_}
+use mathlib.Core.Bool.{Bool, true, false, cond, not, _&&_, _||_, true≢false}
 use native.Mathlib.Decide.{ℕ-discrete}
 use native.Mathlib.Omega.{arith}
 use borrow.Author.Tests.{eqb-true, eqb-false}
@@ -16,6 +16,14 @@ both false false e = (e, e)
 pub neither : (a b : Bool) → (a || b) ≡ false → (a ≡ false) × (b ≡ false)
 neither true b e = absurd (true≢false e)
 neither false b e = (refl, e)
+
+pub not-true : (a : Bool) → not a ≡ true → a ≡ false
+not-true true e = absurd (true≢false (sym e))
+not-true false e = refl
+
+pub not-false : (a : Bool) → not a ≡ false → a ≡ true
+not-false true e = refl
+not-false false e = absurd (true≢false e)
 
 -- What holds of both sides holds of the choice.
 pub either : {A : Type 0} (P : A → Type 0) (t : Bool) {x y : A} → P x → P y → P (cond t x y)

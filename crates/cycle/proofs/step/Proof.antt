@@ -1,5 +1,6 @@
 -- `step`: after its beginning a cycle goes on by its transfer; without RD and WR nothing is transferred, and a refused cycle puts back
 -- what stood in S.
+use mathlib.Core.Path.{sym, _∙_}
 use borrow.Author.Needs.{needs}
 use Rattle.cycle.proofs.Laws.{small, rests, carried, refused}
 use Rattle.cycle.proofs.step.Statement.{statement}
@@ -14,8 +15,8 @@ rest-requires c κs = search needs
 returns : tie.Need-returns
 returns c = rw (c .rest .ensures) (rests _ _ _ _ (c .before .before .before .before .before .before .begin .ensures) (c .before .if1 .taken))
 
-element-copy-out-t22 : tie.Need-element-copy-out-t22
-element-copy-out-t22 c = search needs
+element-copy-out-t23 : tie.Need-element-copy-out-t23
+element-copy-out-t23 c = search needs
 
 element-copy-out-transfer : tie.Need-element-copy-out-transfer
 element-copy-out-transfer c = search needs
@@ -23,14 +24,11 @@ element-copy-out-transfer c = search needs
 transfer-requires : tie.Need-transfer-requires
 transfer-requires c κs = search needs
 
-cast-s : tie.Need-cast-s
-cast-s c = search needs
+goes-on-requires : tie.Need-goes-on-requires
+goes-on-requires c κs = search needs
 
-mul-registers : tie.Need-mul-registers
-mul-registers c = search needs
-
-element-write-registers : tie.Need-element-write-registers
-element-write-registers c = small _ _ _ (c .before .before .before .before .before .before .before .before .before .before .before .before .before .before .before .before .before .before .begin .ensures) .s
+arrive-requires : tie.Need-arrive-requires
+arrive-requires c κs = search needs
 
 same-length : tie.Need-same-length
 same-length c = search needs
@@ -39,10 +37,22 @@ same-length-2 : tie.Need-same-length-2
 same-length-2 c = search needs
 
 returns-2 : tie.Need-returns-2
-returns-2 c = refused _ _ _ _ (c .before .before .before .before .before .before .before .before .before .before .before .before .before .before .before .before .before .before .begin .ensures) (c .before .before .before .before .before .before .transfer .ensures) (c .before .if2 .taken)
+returns-2 c =
+    let back = c .before .before .before .before .before .before .before .before in
+    let further = back .before .before .before .before .before .before .before .before in
+    rw (c .arrive .ensures) (carried _ _ _ _ (further .before .before .before .before .begin .ensures) (c .before .before .before .before .before .before .before .before .transfer .result) (c .before .before .before .before .before .before .before .before .transfer .ensures) (sym (c .before .before .before .goes-on .ensures) ∙ c .before .before .if2 .taken))
 
-arrive-requires : tie.Need-arrive-requires
-arrive-requires c κs = search needs
+cast-s : tie.Need-cast-s
+cast-s c = search needs
+
+mul-registers : tie.Need-mul-registers
+mul-registers c = search needs
+
+element-write-registers : tie.Need-element-write-registers
+element-write-registers c =
+    let back = c .before .before .before .before .before .before .before .before in
+    let further = back .before .before .before .before .before .before .before .before in
+    small _ _ _ (further .before .before .before .begin .ensures) .s
 
 same-length-3 : tie.Need-same-length-3
 same-length-3 c = search needs
@@ -51,7 +61,10 @@ same-length-4 : tie.Need-same-length-4
 same-length-4 c = search needs
 
 returns-3 : tie.Need-returns-3
-returns-3 c = rw (c .arrive .ensures) (carried _ _ _ _ (c .before .before .before .before .before .before .before .before .before .before .before .before .before .before .before .before .before .before .before .begin .ensures) (c .before .before .before .before .before .before .before .transfer .ensures) (c .before .before .if2 .left))
+returns-3 c =
+    let back = c .before .before .before .before .before .before .before .before in
+    let further = back .before .before .before .before .before .before .before .before in
+    refused _ _ _ _ (further .before .before .before .begin .ensures) (c .before .before .before .before .before .before .before .transfer .result) (c .before .before .before .before .before .before .before .transfer .ensures) (sym (c .before .before .goes-on .ensures) ∙ c .before .if2 .left)
 
 pub step-spec : {M : Type 1} → statement M
 step-spec =
@@ -60,16 +73,17 @@ step-spec =
     begin-requires
     rest-requires
     returns
-    element-copy-out-t22
+    element-copy-out-t23
     element-copy-out-transfer
     transfer-requires
-    cast-s
-    mul-registers
-    element-write-registers
+    goes-on-requires
+    arrive-requires
     same-length
     same-length-2
     returns-2
-    arrive-requires
+    cast-s
+    mul-registers
+    element-write-registers
     same-length-3
     same-length-4
     returns-3)

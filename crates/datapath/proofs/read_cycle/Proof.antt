@@ -1,6 +1,6 @@
 -- `read_cycle` goes by what was left half done.
 use borrow.Author.Needs.{needs}
-use Rattle.datapath.specs.Transfer.{reads, completedRead, waits}
+use Rattle.datapath.specs.Transfer.{readCycle, completedRead, waits}
 use Rattle.datapath.proofs.read_cycle.Statement.{statement}
 use Rattle.datapath.proofs.read_cycle.Tie as tie
 
@@ -26,15 +26,15 @@ left-requires-3 : tie.Need-left-requires-3
 left-requires-3 c κs = search needs
 
 returns : tie.Need-returns
-unfolding reads completedRead waits
+unfolding readCycle completedRead waits
 returns c = simp (c .before .before .enum-told .given .1, c .before .read .ensures, c .left .ensures)
 
 returns-2 : tie.Need-returns-2
-unfolding reads completedRead waits
+unfolding readCycle completedRead waits
 returns-2 c = simp (c .before .enum-told2 .given .1, c .left2 .ensures)
 
 returns-3 : tie.Need-returns-3
-unfolding reads completedRead waits
+unfolding readCycle completedRead waits
 returns-3 c = simp (c .before .enum-told3 .given .1, c .left3 .ensures)
 
 pub read-cycle-spec : {M : Type 1} → statement M

@@ -1,6 +1,6 @@
 -- `write_cycle` goes by what was left half done.
 use borrow.Author.Needs.{needs}
-use Rattle.datapath.specs.Transfer.{writes, completedWrite, waits}
+use Rattle.datapath.specs.Transfer.{writeCycle, completedWrite, waits}
 use Rattle.datapath.proofs.write_cycle.Statement.{statement}
 use Rattle.datapath.proofs.write_cycle.Tie as tie
 
@@ -29,15 +29,15 @@ same-length-2 : tie.Need-same-length-2
 same-length-2 c = search needs
 
 returns : tie.Need-returns
-unfolding writes completedWrite waits
+unfolding writeCycle completedWrite waits
 returns c = simp (c .before .before .before .before .before .before .before .enum-told .given .1, c .before .before .before .before .write .ensures)
 
 returns-2 : tie.Need-returns-2
-unfolding writes completedWrite waits
+unfolding writeCycle completedWrite waits
 returns-2 c = simp (c .before .enum-told2 .given .1, c .left .ensures)
 
 returns-3 : tie.Need-returns-3
-unfolding writes completedWrite waits
+unfolding writeCycle completedWrite waits
 returns-3 c = simp (c .before .enum-told3 .given .1, c .left2 .ensures)
 
 pub write-cycle-spec : {M : Type 1} → statement M

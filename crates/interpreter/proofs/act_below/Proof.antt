@@ -1,6 +1,6 @@
 -- `act_below` goes by the code; each arm is the table's action below the ports, and codes from 8 on go to `act_below_from_jump`.
 use Rattle.interpreter.proofs.BelowPorts.{passes}
-use Rattle.instruction.specs.Instruction.{action, sets, jumps}
+use Rattle.instruction.specs.Instruction.{action, sets, branches}
 use mathlib.Core.Path.{refl}
 use Rattle.instruction.proofs.Laws.{beyond}
 use native.Mathlib.Omega.{arith}
@@ -109,11 +109,11 @@ unfolding action
 returns-8 c = rw (c .before .before .before .match .keys6) (rw (c .before .plus2 .ensures) at (c .subtract-below2 .ensures))
 
 returns-9 : tie.Need-returns-9
-unfolding action jumps sets
+unfolding action branches sets
 returns-9 c = rw (c .before .before .before .match .keys7, ne-eqb _ _ (c .before .if1 .left)) (passes _ _ _ _ _ _ (c .pass .ensures) (λ input b. refl))
 
 returns-10 : tie.Need-returns-10
-unfolding action jumps sets
+unfolding action branches sets
 returns-10 c = rw (c .before .before .before .match .keys8, lt-leb _ _ (c .before .if2 .left)) (passes _ _ _ _ _ _ (c .pass2 .ensures) (λ input b. refl))
 
 same-length-9 : tie.Need-same-length-9

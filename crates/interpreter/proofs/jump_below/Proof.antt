@@ -1,6 +1,6 @@
 -- `jump_below` leaves a jump to a port undone; any other sets CP.
 use Rattle.interpreter.proofs.BelowPorts.{stays, passes}
-use Rattle.instruction.specs.Instruction.{jumps, sets}
+use Rattle.instruction.specs.Instruction.{branches, sets}
 use mathlib.Core.Path.{refl}
 use borrow.Author.Needs.{needs}
 use Rattle.interpreter.proofs.jump_below.Statement.{statement}
@@ -16,7 +16,7 @@ pass-requires : tie.Need-pass-requires
 pass-requires c κs = search needs
 
 returns-2 : tie.Need-returns-2
-unfolding jumps sets
+unfolding branches sets
 returns-2 c = passes _ _ _ _ _ _ (c .pass .ensures) (λ input b. refl)
 
 pub jump-below-spec : {M : Type 1} → statement M

@@ -29,7 +29,9 @@ returns : tie.Need-returns Inv-loop μ-loop
 returns c = rests _ _ _ _ _ _ _ _ _ (c .before .before .before .before .before .before .before .loop .inv) (c .before .before .before .before .carry-out-below .ensures .undone (c .before .if1 .taken)) (c .so-far .ensures)
 
 add-cycles : tie.Need-add-cycles Inv-loop μ-loop
-add-cycles c = let least : c .before .before .before .before .before .carry-out-below .result .cycles ≤ 11 = paid-below _ _ _ _ (c .before .before .before .before .before .carry-out-below .ensures) (c .before .before .if1 .left) in omega (arith, least, c .before .before .before .before .before .before .before .before .loop .inv .spent, c .before .before .before .before .before .before .before .before .loop .inv .within, c .before .before .before .before .before .before .before .loop-test .taken, c .before .before .before .before .before .before .before .before .before .before .before .before .fits .n)
+add-cycles c =
+    let back = c .before .before .before .before .before .before .before .before in
+    let least : c .before .before .before .before .before .carry-out-below .result .cycles ≤ 11 = paid-below _ _ _ _ (c .before .before .before .before .before .carry-out-below .ensures) (c .before .before .if1 .left) in omega (arith, least, c .before .before .before .before .before .before .before .before .loop .inv .spent, c .before .before .before .before .before .before .before .before .loop .inv .within, c .before .before .before .before .before .before .before .loop-test .taken, back .before .before .before .before .fits .n)
 
 sub-left : tie.Need-sub-left Inv-loop μ-loop
 sub-left c = omega (arith, c .before .before .before .before .before .before .before .loop-test .taken)

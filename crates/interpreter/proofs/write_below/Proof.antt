@@ -1,5 +1,5 @@
 -- `write_below` leaves a port alone; below the ports the word goes to memory.
-use Rattle.interpreter.proofs.BelowPorts.{stays, passes, writes-below}
+use Rattle.interpreter.proofs.BelowPorts.{stays, passes, stores-below}
 use borrow.Author.Needs.{needs}
 use Rattle.interpreter.proofs.write_below.Statement.{statement}
 use Rattle.interpreter.proofs.write_below.Tie as tie
@@ -26,7 +26,7 @@ same-length : tie.Need-same-length
 same-length c = search needs
 
 returns-2 : tie.Need-returns-2
-returns-2 c = passes _ _ _ _ _ _ (c .pass .ensures) (λ input b. writes-below _ _ _ _ _ _ _ (c .before .before .if1 .left))
+returns-2 c = passes _ _ _ _ _ _ (c .pass .ensures) (λ input b. stores-below _ _ _ _ _ _ _ (c .before .before .if1 .left))
 
 pub write-below-spec : {M : Type 1} → statement M
 write-below-spec =

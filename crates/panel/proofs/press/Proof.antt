@@ -42,19 +42,20 @@ use denote.Triple.Table.{entered, cited}
 use denote.Triple.Walked.{says, Stays, stay-ref, gave-slice, stay-dropped, walkOf, AllGo, goes-ref, goes-gave-slice, goes-dropped, Walks, ends-at, walked, walk-meets}
 use denote.Triple.Clauses.{ensured, lasts, Lasts}
 use denote.Exit.{yes}
-use Rattle.engine.specs.Run.{press, stateOf, pressedBy}
+use Rattle.engine.specs.Run.{stateOf}
+use Rattle.panel.specs.Press.{press, pressedBy}
 use Rattle.engine.specs.declared.Machine.{Machine}
-use Rattle.engine.specs.declared.Pressed.{Pressed}
+use Rattle.panel.specs.declared.Pressed.{Pressed}
 use Rattle.engine.proofs.Machine as T
 use Rattle.engine.proofs.Machine.Laws as T′
-use Rattle.engine.proofs.Pressed as O
-use Rattle.engine.proofs.Pressed.Laws as O′
+use Rattle.panel.proofs.Pressed as O
+use Rattle.panel.proofs.Pressed.Laws as O′
 use Rattle.engine.proofs.Answer as N
 use Rattle.engine.proofs.Answer.Laws as N′
-use Rattle.engine.proofs.run_one as step
-use Rattle.engine.proofs.run_one.Symbol as step-def
-use Rattle.engine.proofs.run_one.Symbol.{name as #step}
-use Rattle.engine.proofs.run_one.Met as step-thm
+use Rattle.panel.proofs.run_one as step
+use Rattle.panel.proofs.run_one.Symbol as step-def
+use Rattle.panel.proofs.run_one.Symbol.{name as #step}
+use Rattle.panel.proofs.run_one.Met as step-thm
 use Rattle.panel.proofs.press.Key.{name as #this}
 use Rattle.panel.proofs.press as this
 use Rattle.panel.proofs.press.Statement as stated
@@ -179,4 +180,4 @@ press-spec 𝓤 H 𝓜 𝓖 𝓡 =
     entered 𝓤 H (tripleOf 𝓤 H (𝓖 .A) this.signature (this.spec 𝓤 H (𝓖 .A) (𝓜 .mem) (𝓡 .run)))
     (tables 𝓤 H 𝓜 𝓡 code.env .C) (tables 𝓤 H 𝓜 𝓡 code.env .Λ) #this code.function (code.unfolded 𝓤 H 𝓜 𝓡)
     (meets 𝓤 H (𝓖 .A) (givenOf 𝓤 H 𝓜 𝓖) (𝓜 .mem) (𝓡 .run) (tablesOf 𝓤 H 𝓜 (tables 𝓤 H 𝓜 𝓡 code.env))
-    (cited 𝓤 H (Step 𝓤 H (𝓖 .A) (𝓜 .mem) (𝓡 .run)) 𝓜 𝓡 code.env #step step-def.routine code.calls-engine·run-one (step-thm.met 𝓤 H 𝓜 𝓖 𝓡)))
+    (cited 𝓤 H (Step 𝓤 H (𝓖 .A) (𝓜 .mem) (𝓡 .run)) 𝓜 𝓡 code.env #step step-def.routine code.calls-panel·run-one (step-thm.met 𝓤 H 𝓜 𝓖 𝓡)))

@@ -43,14 +43,15 @@ use denote.Triple.Table.{entered, cited}
 use denote.Triple.Walked.{says, Stays, gave-slice, stay-dropped, walkOf, AllGo, goes-gave-slice, goes-dropped, Walks, ends-at, walked, walk-meets}
 use denote.Triple.Clauses.{ensured, lasts, Lasts}
 use denote.Exit.{yes}
-use Rattle.engine.specs.Run.{press, stateOf, pressedBy}
+use Rattle.engine.specs.Run.{stateOf}
+use Rattle.panel.specs.Press.{press, pressedBy}
 use Rattle.engine.specs.declared.Machine.{Machine}
-use Rattle.engine.specs.declared.Pressed.{Pressed}
+use Rattle.panel.specs.declared.Pressed.{Pressed}
 use Rattle.engine.specs.declared.Answer.{Answer}
 use Rattle.engine.proofs.Machine as T
 use Rattle.engine.proofs.Machine.Laws as T′
-use Rattle.engine.proofs.Pressed as O
-use Rattle.engine.proofs.Pressed.Laws as O′
+use Rattle.panel.proofs.Pressed as O
+use Rattle.panel.proofs.Pressed.Laws as O′
 use Rattle.engine.proofs.Answer as N
 use Rattle.engine.proofs.Answer.Laws as N′
 use Rattle.panel.proofs.press as pressing
