@@ -73,13 +73,13 @@ static void call_interpreter(const struct version *v, const struct work *work, s
 static void call_assembler(const struct version *v, const struct work *work, struct lent *l)
 {
     for (uint32_t i = 0; i < work->times; i++)
-        l->answer |= v->assemble(work->bytes, work->length, l->store, STORE_WORDS);
+        l->answer |= v->micro_assemble(work->bytes, work->length, l->store, STORE_WORDS);
 }
 
 static void call_lister(const struct version *v, const struct work *work, struct lent *l)
 {
     for (uint32_t i = 0; i < work->times; i++)
-        l->answer |= v->list(work->store, STORE_WORDS, l->room, ROOM_BYTES, l->told);
+        l->answer |= v->micro_list(work->store, STORE_WORDS, l->room, ROOM_BYTES, l->told);
 }
 
 static void call_reader(const struct version *v, const struct work *work, struct lent *l)
@@ -273,7 +273,7 @@ static void add_listing(const char *name, const uint32_t store[STORE_WORDS])
     memcpy(work->store, store, sizeof work->store);
     work->call = call_lister;
     work->times = TEXT_CALLS;
-    plain_c_list(store, STORE_WORDS, lent[0].room, ROOM_BYTES, lent[0].told);
+    plain_c_micro_list(store, STORE_WORDS, lent[0].room, ROOM_BYTES, lent[0].told);
     work->amount = (double)TEXT_CALLS * lent[0].told[0];
 }
 
@@ -284,15 +284,15 @@ static void add_texts(void)
     uint8_t text[ROOM_BYTES];
     size_t told[2];
     facetgrove_printed_store(printed);
-    plain_c_list(printed, STORE_WORDS, text, ROOM_BYTES, told);
+    plain_c_micro_list(printed, STORE_WORDS, text, ROOM_BYTES, told);
     add_text("listing of the printed store", text, told[0]);
     add_longest_text();
     add_listing("printed store", printed);
     random_state = LINES_SEED;
     for (size_t k = 0; k < STORE_WORDS; k++)
         normal[k] = random_control_word();
-    plain_c_list(normal, STORE_WORDS, text, ROOM_BYTES, told);
-    plain_c_assemble(text, told[0], normal, STORE_WORDS);
+    plain_c_micro_list(normal, STORE_WORDS, text, ROOM_BYTES, told);
+    plain_c_micro_assemble(text, told[0], normal, STORE_WORDS);
     add_listing("random normal words", normal);
 }
 

@@ -160,7 +160,7 @@ static int check_text(const struct version *v, char *line)
     memset(after, AS_FOUND, sizeof after);
     if (value(line, "words") != NULL)
         control_words(value(line, "words"), after);
-    return v->assemble(text, length, store, STORE_WORDS) == number(line, "answer")
+    return v->micro_assemble(text, length, store, STORE_WORDS) == number(line, "answer")
         && memcmp(store, after, sizeof store) == 0;
 }
 
@@ -174,8 +174,8 @@ static int check_listing(const struct version *v, char *line)
     control_words(value(line, "store"), store);
     if (value(line, "text") != NULL)
         length = bytes(value(line, "text"), after);
-    return v->list(store, STORE_WORDS, room, number(line, "room"), told) == number(line, "answer") && told[0] == length
-        && told[1] == number(line, "line") && memcmp(room, after, sizeof room) == 0;
+    return v->micro_list(store, STORE_WORDS, room, number(line, "room"), told) == number(line, "answer")
+        && told[0] == length && told[1] == number(line, "line") && memcmp(room, after, sizeof room) == 0;
 }
 
 /* What was read is also written, which has to give the same bytes. */

@@ -494,7 +494,7 @@ static inline uint32_t take_line(struct cursor *c, unsigned k, uint32_t *word)
     return 0;
 }
 
-uint32_t plain_c_assemble(const uint8_t *text, size_t text_bytes, uint32_t *store, size_t store_words)
+uint32_t plain_c_micro_assemble(const uint8_t *text, size_t text_bytes, uint32_t *store, size_t store_words)
 {
     if (store_words != STORE_WORDS)
         return 1;
@@ -586,7 +586,7 @@ static bool does_nothing(uint32_t word)
 }
 
 /* No line is longer than 44 bytes, so no listing passes a room of 2,816: answer 17 never comes. */
-uint32_t plain_c_list(const uint32_t *store, size_t store_words, uint8_t *room, size_t room_bytes, size_t told[2])
+uint32_t plain_c_micro_list(const uint32_t *store, size_t store_words, uint8_t *room, size_t room_bytes, size_t told[2])
 {
     told[0] = 0;
     told[1] = 0;

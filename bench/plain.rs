@@ -117,7 +117,7 @@ impl Machine {
     #[inline(always)]
     fn cycle(&mut self, store: &Store, bus: &mut Bus) -> Result<(), Full> {
         let word = store[self.line & 63];
-        let field = |place: u32| (word >> place & 7) as usize;
+        let field = |low: u32| (word >> low & 7) as usize;
         let s = field(14);
         let result = compute(word >> 10 & 7, self.registers[field(20)], self.registers[field(17)]);
         let before = self.registers[s];
@@ -611,7 +611,7 @@ impl Room<'_> {
     }
 
     fn put_operation(&mut self, word: u32) {
-        let name = |place: u32| NAMES[(word >> place & 7) as usize];
+        let name = |low: u32| NAMES[(word >> low & 7) as usize];
         self.put(b" ");
         self.put(if word >> 13 & 1 == 1 { name(14) } else { b"alu" });
         self.put(b":=");
@@ -808,7 +808,7 @@ pub unsafe extern "C" fn plain_rust_interpreter_run(
 }
 
 #[unsafe(no_mangle)]
-pub unsafe extern "C" fn plain_rust_assemble(
+pub unsafe extern "C" fn plain_rust_micro_assemble(
     text: *const u8,
     text_bytes: usize,
     store: *mut u32,
@@ -819,7 +819,7 @@ pub unsafe extern "C" fn plain_rust_assemble(
 }
 
 #[unsafe(no_mangle)]
-pub unsafe extern "C" fn plain_rust_list(
+pub unsafe extern "C" fn plain_rust_micro_list(
     store: *const u32,
     store_words: usize,
     room: *mut u8,

@@ -47,7 +47,7 @@
 extern "C" {
 #endif
 
-/* Places in `registers`. The engine has all eight, the interpreter the first three. */
+/* Indices in `registers`. The engine has all eight, the interpreter the first three. */
 enum {
     FACETGROVE_CP,
     FACETGROVE_AC,
@@ -60,7 +60,7 @@ enum {
     FACETGROVE_REGISTERS
 };
 
-/* Places in `state`. The engine has all four, the interpreter the first two.
+/* Indices in `state`. The engine has all four, the interpreter the first two.
  * Half done is 0 for nothing, 1 for a read, 2 for a write. */
 enum {
     FACETGROVE_PLACE,
@@ -99,12 +99,13 @@ uint32_t facetgrove_interpreter_run(uint16_t *memory, size_t memory_words,
                                     uint32_t instructions, uint64_t told[2]);
 
 /* Assembles micro text. Answers 0, 1, 10 to 15. 0 sets the 64 words of the store, any other leaves it as found. */
-uint32_t facetgrove_assemble(const uint8_t *text, size_t text_bytes, uint32_t *store, size_t store_words);
+uint32_t facetgrove_micro_assemble(const uint8_t *text, size_t text_bytes, uint32_t *store, size_t store_words);
 
 /* Lists a control store at the start of the room. Answers 0, 1, 16, 4, 17, tested in this order. 0 sets told[0] to the
  * listing's length, and the room past it stays as found; any other leaves the room as found and sets told[0] to 0.
  * told[1] is the line that answer 4 names, else 0. */
-uint32_t facetgrove_list(const uint32_t *store, size_t store_words, uint8_t *room, size_t room_bytes, size_t told[2]);
+uint32_t facetgrove_micro_list(const uint32_t *store, size_t store_words, uint8_t *room, size_t room_bytes,
+                               size_t told[2]);
 
 /* Reads an image. Answers 0, 1, 20 to 23. 0 sets all 4,096 words of memory, any other leaves it as found. */
 uint32_t facetgrove_image_read(const uint8_t *image, size_t image_bytes, uint16_t *memory, size_t memory_words);

@@ -44,7 +44,7 @@ pub const LISTING_ROOM: usize = 2816;
 /// The least room for an image, in bytes; no image is longer.
 pub const IMAGE_ROOM: usize = 16368;
 
-/// The places of the registers in [`Machine::registers`].
+/// The indices of the registers in [`Machine::registers`].
 pub mod register {
     /// The address of the next instruction, 12 bits.
     pub const CP: usize = 0;
@@ -161,28 +161,26 @@ pub fn engine_run(
     if let Err(refusal) = store_length(store).and(memory_length(memory)) {
         return Ran { done: 0, outcome: Err(refusal) };
     }
-    let mut state = machine.state();
-    let mut told = [0; 2];
-    // SAFETY: every pointer comes from a slice or an array with the length beside it, and those written to are borrowed
-    // alone.
-    let answer = unsafe {
-        raw::facetgrove_engine_run(
-            store.as_ptr(),
-            store.len(),
-            memory.as_mut_ptr(),
-            memory.len(),
-            input.as_ptr(),
-            input.len(),
-            log.as_mut_ptr(),
-            log.len(),
-            &mut machine.registers,
-            &mut state,
-            cycles,
-            &mut told,
-        )
-    };
-    machine.set_state(state);
-    let [done, line] = told;
+    let ([done, line], answer) = machine.told_by(|registers, state, told| {
+        // SAFETY: every pointer comes from a slice or an array with the length beside it, and those written to are
+        // borrowed alone.
+        unsafe {
+            raw::facetgrove_engine_run(
+                store.as_ptr(),
+                store.len(),
+                memory.as_mut_ptr(),
+                memory.len(),
+                input.as_ptr(),
+                input.len(),
+                log.as_mut_ptr(),
+                log.len(),
+                registers,
+                state,
+                cycles,
+                told,
+            )
+        }
+    });
     Ran {
         done: u32::try_from(done).expect("no more cycles than were asked for"),
         outcome: refusal::outcome(answer, line),
@@ -209,27 +207,26 @@ pub fn press(
     store: &[u32],
 ) -> Result<(), Refusal> {
     store_length(store).and(memory_length(memory))?;
-    let mut state = machine.state();
-    let mut told = [0; 2];
-    // SAFETY: every pointer comes from a slice or an array with the length beside it, and those written to are borrowed
-    // alone.
-    let answer = unsafe {
-        raw::facetgrove_press(
-            &mut machine.registers,
-            &mut state,
-            memory.as_mut_ptr(),
-            memory.len(),
-            input.as_ptr(),
-            input.len(),
-            log.as_mut_ptr(),
-            log.len(),
-            store.as_ptr(),
-            store.len(),
-            &mut told,
-        )
-    };
-    machine.set_state(state);
-    refusal::outcome(answer, told[1])
+    let ([_, line], answer) = machine.told_by(|registers, state, told| {
+        // SAFETY: every pointer comes from a slice or an array with the length beside it, and those written to are
+        // borrowed alone.
+        unsafe {
+            raw::facetgrove_press(
+                registers,
+                state,
+                memory.as_mut_ptr(),
+                memory.len(),
+                input.as_ptr(),
+                input.len(),
+                log.as_mut_ptr(),
+                log.len(),
+                store.as_ptr(),
+                store.len(),
+                told,
+            )
+        }
+    });
+    refusal::outcome(answer, line)
 }
 
 /// Runs `instructions` instructions of the interpreter.
@@ -284,15 +281,15 @@ pub fn interpreter_run(
 ///
 /// ```
 /// let mut store = [0u32; 64];
-/// facetgrove::assemble(b"0: rem:=cp; rd;\n", &mut store)?;
+/// facetgrove::micro_assemble(b"0: rem:=cp; rd;\n", &mut store)?;
 /// assert_eq!(store[0], 107008);
-/// assert_eq!(facetgrove::assemble(b"0: goto 64;\n", &mut store), Err(facetgrove::Refusal::Target));
+/// assert_eq!(facetgrove::micro_assemble(b"0: goto 64;\n", &mut store), Err(facetgrove::Refusal::Target));
 /// # Ok::<(), facetgrove::Refusal>(())
 /// ```
-pub fn assemble(text: &[u8], store: &mut [u32]) -> Result<(), Refusal> {
+pub fn micro_assemble(text: &[u8], store: &mut [u32]) -> Result<(), Refusal> {
     store_length(store)?;
     // SAFETY: both pointers come from slices with the length beside them, and the store is borrowed alone.
-    let answer = unsafe { raw::facetgrove_assemble(text.as_ptr(), text.len(), store.as_mut_ptr(), store.len()) };
+    let answer = unsafe { raw::facetgrove_micro_assemble(text.as_ptr(), text.len(), store.as_mut_ptr(), store.len()) };
     refusal::outcome(answer, 0)
 }
 
@@ -303,15 +300,16 @@ pub fn assemble(text: &[u8], store: &mut [u32]) -> Result<(), Refusal> {
 ///
 /// ```
 /// let mut room = [0u8; facetgrove::LISTING_ROOM];
-/// let length = facetgrove::list(&facetgrove::printed_store(), &mut room)?;
+/// let length = facetgrove::micro_list(&facetgrove::printed_store(), &mut room)?;
 /// assert!(room[..length].starts_with(b"0: rem:=cp; rd;\n1: cp:=cp+1; rd;\n"));
 /// # Ok::<(), facetgrove::Refusal>(())
 /// ```
-pub fn list(store: &[u32], room: &mut [u8]) -> Result<usize, Refusal> {
+pub fn micro_list(store: &[u32], room: &mut [u8]) -> Result<usize, Refusal> {
     store_length(store)?;
     let mut told = [0; 2];
     // SAFETY: every pointer comes from a slice or an array with the length beside it, and the room is borrowed alone.
-    let answer = unsafe { raw::facetgrove_list(store.as_ptr(), store.len(), room.as_mut_ptr(), room.len(), &mut told) };
+    let answer =
+        unsafe { raw::facetgrove_micro_list(store.as_ptr(), store.len(), room.as_mut_ptr(), room.len(), &mut told) };
     let [length, line] = told;
     refusal::outcome(answer, line).map(|()| length)
 }
@@ -376,13 +374,15 @@ fn store_length(store: &[u32]) -> Result<(), Refusal> {
 }
 
 impl Machine {
-    /// Place, count, line and half done as the C interface has them.
-    fn state(&self) -> [usize; 4] {
-        [self.place, self.count, self.line.into(), self.half as usize]
-    }
-
-    /// Takes over what the C interface left.
-    fn set_state(&mut self, [place, count, line, half]: [usize; 4]) {
+    /// Hands the machine to the C interface as its lists, takes over what it left, and gives what it told and answered.
+    fn told_by(
+        &mut self,
+        call: impl FnOnce(&mut [u16; 8], &mut [usize; 4], &mut [usize; 2]) -> u32,
+    ) -> ([usize; 2], u32) {
+        let mut state = [self.place, self.count, self.line.into(), self.half as usize];
+        let mut told = [0; 2];
+        let answer = call(&mut self.registers, &mut state, &mut told);
+        let [place, count, line, half] = state;
         self.place = place;
         self.count = count;
         self.line = u8::try_from(line).expect("a line is at most 63, or as it was found");
@@ -392,5 +392,6 @@ impl Machine {
             2 => Half::Write,
             other => panic!("the library left {other} half done, which is neither nothing, a read nor a write"),
         };
+        (told, answer)
     }
 }

@@ -50,10 +50,10 @@ extern "C" {
     ) -> u32;
 
     /// Assembles micro text into the store.
-    pub fn facetgrove_assemble(text: *const u8, text_bytes: usize, store: *mut u32, store_words: usize) -> u32;
+    pub fn facetgrove_micro_assemble(text: *const u8, text_bytes: usize, store: *mut u32, store_words: usize) -> u32;
 
     /// Lists a control store; `told` is the listing's length and the line of answer 4.
-    pub fn facetgrove_list(
+    pub fn facetgrove_micro_list(
         store: *const u32,
         store_words: usize,
         room: *mut u8,

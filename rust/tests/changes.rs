@@ -44,7 +44,7 @@ fn first_fields(file: &str) -> Vec<Vec<u8>> {
 }
 
 fn from_hex(digits: &str) -> Vec<u8> {
-    let pairs = (0..digits.len() / 2).map(|place| &digits[2 * place..2 * place + 2]);
+    let pairs = (0..digits.len() / 2).map(|index| &digits[2 * index..2 * index + 2]);
     pairs.map(|pair| u8::from_str_radix(pair, 16).expect("hexadecimal digits")).collect()
 }
 
@@ -84,12 +84,12 @@ fn changed_texts(text: &[u8]) -> u64 {
     let mut changed = text.to_vec();
     let judged: Vec<_> = lines(text).enumerate().map(|(number, line)| assemble_line(number, line)).collect();
     let (mut number, mut start) = (0, 0);
-    for place in 0..text.len() {
-        let end = place + text[place..].iter().position(|&byte| byte == b'\n').unwrap_or(text.len() - place);
-        for byte in (0..=255).filter(|&byte| byte != text[place]) {
-            changed[place] = byte;
+    for at in 0..text.len() {
+        let end = at + text[at..].iter().position(|&byte| byte == b'\n').unwrap_or(text.len() - at);
+        for byte in (0..=255).filter(|&byte| byte != text[at]) {
+            changed[at] = byte;
             let mut store = FOUND_STORE;
-            let answer = if text.len() > LONGEST_TEXT || byte == b'\n' || text[place] == b'\n' {
+            let answer = if text.len() > LONGEST_TEXT || byte == b'\n' || text[at] == b'\n' {
                 assemble(&changed, &mut store)
             } else {
                 let line = assemble_line(number, &changed[start..end]);
@@ -97,9 +97,9 @@ fn changed_texts(text: &[u8]) -> u64 {
             };
             compare_text(&changed, answer, &store);
         }
-        changed[place] = text[place];
-        if text[place] == b'\n' {
-            (number, start) = (number + 1, place + 1);
+        changed[at] = text[at];
+        if text[at] == b'\n' {
+            (number, start) = (number + 1, at + 1);
         }
     }
     text.len() as u64 * 255
@@ -125,7 +125,7 @@ fn assemble_judged(
 
 fn compare_text(text: &[u8], answer: u32, store: &[u32; STORE_WORDS]) {
     let mut by_library = FOUND_STORE;
-    let library_answer = number(facetgrove::assemble(text, &mut by_library));
+    let library_answer = number(facetgrove::micro_assemble(text, &mut by_library));
     assert!(
         library_answer == answer && by_library == *store,
         "library {library_answer}, model {answer}: {}\nlibrary {by_library:?}\nmodel {store:?}",
@@ -144,12 +144,12 @@ fn truncated_images(image: &[u8]) -> u64 {
 /// Every change of one byte.
 fn changed_images(image: &[u8]) -> u64 {
     let mut changed = image.to_vec();
-    for place in 0..image.len() {
-        for byte in (0..=255).filter(|&byte| byte != image[place]) {
-            changed[place] = byte;
+    for at in 0..image.len() {
+        for byte in (0..=255).filter(|&byte| byte != image[at]) {
+            changed[at] = byte;
             compare_image(&changed);
         }
-        changed[place] = image[place];
+        changed[at] = image[at];
     }
     image.len() as u64 * 255
 }

@@ -2,7 +2,7 @@
 
 use facetgrove::register::{AC, CP, MASC};
 use facetgrove::{
-    assemble, engine_run, interpreter_run, printed_store, Cpu, Machine, Refusal, MEMORY_WORDS, STORE_WORDS,
+    engine_run, interpreter_run, micro_assemble, printed_store, Cpu, Machine, Refusal, MEMORY_WORDS, STORE_WORDS,
 };
 
 #[test]
@@ -31,7 +31,7 @@ fn targets_end_at_63() {
 
 fn assembled(parts: &str) -> Result<u32, Refusal> {
     let mut store = [0; STORE_WORDS];
-    assemble(format!("0: {parts}").as_bytes(), &mut store).map(|()| store[0])
+    micro_assemble(format!("0: {parts}").as_bytes(), &mut store).map(|()| store[0])
 }
 
 #[test]

@@ -17,7 +17,7 @@ fn micro_text() {
         let found = [u32::from(FOUND_WORD); STORE_WORDS];
         let after = if answer == 0 { fields.words("words") } else { found.to_vec() };
         let mut store = found;
-        let told = functions.assemble(&text, &mut store);
+        let told = functions.micro_assemble(&text, &mut store);
         told == Told::answer(answer) && store[..] == after[..]
     });
 }
@@ -37,7 +37,7 @@ fn listings() {
             expected.done = text.len() as u64;
             after[..text.len()].copy_from_slice(&text);
         }
-        functions.list(&store, &mut room) == expected && room == after
+        functions.micro_list(&store, &mut room) == expected && room == after
     });
 }
 
@@ -137,7 +137,7 @@ impl<'a> Fields<'a> {
 
     fn bytes(&self, name: &str) -> Vec<u8> {
         let hex = self.value(name);
-        let pairs = (0..hex.len() / 2).map(|place| &hex[2 * place..2 * place + 2]);
+        let pairs = (0..hex.len() / 2).map(|index| &hex[2 * index..2 * index + 2]);
         pairs.map(|pair| u8::from_str_radix(pair, 16).expect("hexadecimal digits")).collect()
     }
 

@@ -8,14 +8,15 @@ use lib.Dec.{ltb}
 use native.Mathlib.Numerals.{add-one}
 use native.Mathlib.Omega.{arith}
 use borrow.Author.Tests.{lt-ltb, le-ltb, ltb-true, ltb-false}
-use lib.ListN.{length, getD, take, drop, length-append, drop-of-length-le}
+use lib.ListN.{length, getD, take, drop, set, length-append, drop-of-length-le}
 use lib.Seq.{drop-cons, take-append-seam}
 use Rattle.io.specs.Counts.{Counts}
 use Rattle.io.specs.Digits.{digits as lastDigits, Fewest}
 use Rattle.text.specs.Laid.{Wrote}
-use Rattle.text.proofs.Laid.{all-of}
+use Rattle.text.proofs.Laid.{_then_, all-of}
 use Rattle.text.specs.Decimal.{digits, decimal}
-use Rattle.console.specs.Text.{signed, lines, Shown, shown}
+use Rattle.console.specs.Text.{signed, lines}
+use Rattle.console.specs.Code.Shown.{Shown, shown}
 
 -- The fewest digits that hold a number are those of its decimal.
 spelt : (k most n : ℕ) → suc k ≤ most → n < 10 ^ suc k → (0 < k → 10 ^ k ≤ n) → lastDigits 10 (suc k) n ≡ digits most n
@@ -53,13 +54,13 @@ pub lines-next : (words : List ℕ) (i : ℕ) → i < length words
 unfolding lines
 lines-next words i h = rw (add-one, drop-cons words i 0 h) (sym (append-assoc (signed (getD words i 0)) (10 ∷ []) (lines (drop (suc i) words))))
 
-pub lines-length : (words : List ℕ) (i : ℕ) → i < length words
-    → length (lines (drop i words)) ≡ length (lines (getD words i 0 ∷ [])) + length (lines (drop (i + 1) words))
-lines-length words i h = ap length (lines-next words i h) ∙ length-append (lines (getD words i 0 ∷ [])) (lines (drop (i + 1) words))
-
 pub lines-end : (words : List ℕ) (i : ℕ) → length words ≤ i → lines (drop i words) ≡ []
 unfolding lines
 lines-end words i h = rw (drop-of-length-le words h)
+
+-- Byte 10 stored behind a text ends its line.
+pub ended : {room left : List ℕ} {at next : ℕ} {text : List ℕ} → Wrote room at text left next → Wrote room at (text ++ 10 ∷ []) (set left next 10) (next + 1)
+ended w = w then record { stored = refl; behind = refl }
 
 -- A text that was put at a room's start is shown; a smaller room is as found.
 pub shown-put : {room left : List ℕ} {next : ℕ} {text : List ℕ} → Wrote room 0 text left next → 512 ≤ length room → next ≤ 512

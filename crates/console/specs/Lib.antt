@@ -1,2 +1,2 @@
 pub mod Text
-pub mod Input
+pub mod Code

@@ -4,7 +4,7 @@ use Prim.Native.String.{String}
 use mathlib.Core.Bool.{cond}
 use mathlib.Core.List.{List, [], _∷_, _++_}
 use lib.Dec.{ltb}
-use lib.ListN.{length, take, drop}
+use lib.ListN.{take}
 use Rattle.text.specs.Text.{bytes}
 use Rattle.text.specs.Decimal.{decimal}
 use Rattle.console.specs.declared.Run.{Run}
@@ -21,9 +21,9 @@ labelled label n = bytes label ++ decimal n
 unfoldable pub refusal : ℕ → List ℕ
 refusal answer = labelled "answer " answer ++ 10 ∷ []
 
--- A bad word prints `answer 4 line` and its line.
-unfoldable pub badWord : ℕ → List ℕ
-badWord line = labelled "answer 4 line " line ++ 10 ∷ []
+-- The same, and `line` with the line that the answer names.
+unfoldable pub refusalAt : ℕ → ℕ → List ℕ
+refusalAt answer line = labelled "answer " answer ++ labelled " line " line ++ 10 ∷ []
 
 -- Fields: answer number, instructions done, table cycles, registers, log count.
 unfoldable pub counts : Run → List ℕ
@@ -43,13 +43,3 @@ lines (word ∷ words) = signed word ++ 10 ∷ lines words
 -- One line, then each log word on a line: of the log's room as many words as its count says.
 unfoldable pub report : Run → List ℕ → List ℕ
 report r log = line r ++ lines (take (r .count) log)
-
--- What is left of showing a text: its length, and the room.
-pub record Shown : Type 0 where
-  pub length : ℕ
-  pub room : List ℕ
-
--- A room of 512 bytes or more has the text at its front and is as found past it; a smaller one is as found.
-unfoldable pub shown : List ℕ → List ℕ → Shown
-shown text room =
-    cond (ltb (length room) 512) (record { length = 0; room = room }) (record { length = length text; room = text ++ drop (length text) room })

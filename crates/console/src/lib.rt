@@ -5,18 +5,18 @@ ghost use Prim.Native.Nat.{ℕ, _+_, _*_, _≤_};
 ghost use lib.ListN.{length, take};
 ghost use Rattle.text.specs.Laid.{Wrote};
 ghost use Rattle.text.specs.Decimal.{decimal};
-ghost use Rattle.console.specs.Text.{signed, counts, registers, line, lines, refusal as Text·refusal, badWord, report as Text·report, shown};
-ghost use Rattle.console.specs.Input.{Held};
+ghost use Rattle.console.specs.Text.{signed, counts, registers, line, lines, refusal as Text·refusal, refusalAt, report as Text·report};
+ghost use Rattle.console.specs.Code.Shown.{shown};
+ghost use Rattle.io.specs.Counts.{Counts};
 use word::Address;
-use word::Line;
 
 // The room that every text fits into.
 const ROOM: usize = 512;
 
-// What came of reading: how many bytes stand at the front of the buffer, or that a read failed.
-pub enum Input {
-    Read(usize),
-    Failed,
+// What came of reading: how many bytes stand at the front of the buffer, and whether a read failed behind them.
+pub struct Input {
+    pub length: usize,
+    pub failed: bool,
 }
 
 // What the report of a run tells beside the log's words.
@@ -30,41 +30,70 @@ pub struct Run {
     pub count: usize,
 }
 
-// One read of standard input; no bytes are its end.
+// One read of standard input; no bytes are its end, or that it failed.
 fn read_some(part: &mut [u8]) -> Input
-    ensures { λ r. ⌜ Held r (now (part .exit)) ⌝ }
+    ensures { λ r. ⌜ Counts (r .length) (now (part .exit)) ⌝ }
 {
     let got = libc::read(libc::STDIN_FILENO, part);
-    if got < 0 {
-        return Input::Failed;
+    Input {
+        length: io::count(got, part),
+        failed: got < 0,
     }
-    Input::Read(io::count(got, part))
 }
 
 // Standard input up to its end, or as much of it as the buffer holds. A read that fails is not the end.
-pub fn read_all(buffer: &mut [u8]) -> Input
-    ensures { λ r. ⌜ Held r (now (buffer .exit)) ⌝ }
+fn read_all(buffer: &mut [u8]) -> Input
+    ensures { λ r. ⌜ Counts (r .length) (now (buffer .exit)) ⌝ }
 {
     let mut done: usize = 0;
     while done < buffer.len() {
         let piece = read_some(&mut buffer[done..]);
-        let Input::Read(more) = piece else {
-            return Input::Failed;
-        };
-        if more == 0 {
-            return Input::Read(done);
+        if piece.length == 0 {
+            return Input {
+                length: done,
+                failed: piece.failed,
+            };
         }
-        done += more;
+        done += piece.length;
     }
-    Input::Read(done)
+    Input {
+        length: done,
+        failed: false,
+    }
 }
 
 // Writes a text to standard output and closes it, since some systems say only then that bytes were lost. Whether both went well.
-pub fn write_out(text: &[u8]) -> bool {
+fn write_out(text: &[u8]) -> bool {
     if !io::write_all(libc::STDOUT_FILENO, text) {
         return false;
     }
     libc::close(libc::STDOUT_FILENO) == 0
+}
+
+// Says on standard error which program's stream failed, and why: one line, the name and the stream within 64 bytes.
+fn say_failed(program: &[u8], stream: &[u8]) {
+    let mut what = [0u8; 64];
+    let at = text::put(&mut what, 0, program);
+    let end = text::put(&mut what, at, stream);
+    os::fail(&what[..end]);
+}
+
+// A program's input: `read_all`, with a failure said.
+pub fn read_input(program: &[u8], buffer: &mut [u8]) -> Input
+    ensures { λ r. ⌜ Counts (r .length) (now (buffer .exit)) ⌝ }
+{
+    let got = read_all(buffer);
+    if got.failed {
+        say_failed(program, b": standard input");
+    }
+    got
+}
+
+// A program's output: `write_out`, with a failure said.
+pub fn print(program: &[u8], text: &[u8]) {
+    if !write_out(text) {
+        say_failed(program, b": standard output");
+    }
 }
 
 // A number in decimal, of at most 20 digits.
@@ -174,14 +203,15 @@ pub fn refusal(answer: u32, room: &mut [u8]) -> usize
     end + 1
 }
 
-// The line that names a bad word's line.
-pub fn bad_word(line: Line, room: &mut [u8]) -> usize
-    ensures { λ r. ⌜ shown (badWord (line .0)) (now (room .entry)) ≡ record { length = r; room = now (room .exit) } ⌝ }
+// The line of a refusal that names a control line.
+pub fn refusal_at(answer: u32, line: usize, room: &mut [u8]) -> usize
+    ensures { λ r. ⌜ shown (refusalAt answer line) (now (room .entry)) ≡ record { length = r; room = now (room .exit) } ⌝ }
 {
     if room.len() < ROOM {
         return 0;
     }
-    let end = put_labelled(room, 0, b"answer 4 line ", line.0 as u64);
+    let at = put_labelled(room, 0, b"answer ", answer as u64);
+    let end = put_labelled(room, at, b" line ", line as u64);
     room[end] = 10;
     end + 1
 }

@@ -64,7 +64,7 @@ pub extern "C" fn facetgrove_interpreter_run(
 
 // Micro text to a control store.
 #[no_mangle]
-pub extern "C" fn facetgrove_assemble(text: &[u8], store: &mut [u32]) -> u32
+pub extern "C" fn facetgrove_micro_assemble(text: &[u8], store: &mut [u32]) -> u32
     ensures { λ r. ⌜ assembled (now (text .entry)) (now (store .entry)) ≡ record { answer = r; store = now (store .exit) } ⌝ }
 {
     let answer = microassembler::assemble(text, store);
@@ -73,7 +73,11 @@ pub extern "C" fn facetgrove_assemble(text: &[u8], store: &mut [u32]) -> u32
 
 // A control store's listing, at the start of the room.
 #[no_mangle]
-pub extern "C" fn facetgrove_list(store: &[u32], room: &mut [u8], told: &mut [usize; 2]) -> u32
+pub extern "C" fn facetgrove_micro_list(
+    store: &[u32],
+    room: &mut [u8],
+    told: &mut [usize; 2],
+) -> u32
     ensures { λ r. ⌜ listCalled (now (store .entry)) (now (room .entry)) ≡ record { answer = r; room = now (room .exit); told = now (told .exit) } ⌝ }
 {
     let listed = lister::list(store, room);
@@ -88,7 +92,7 @@ pub extern "C" fn facetgrove_image_read(image: &[u8], memory: &mut [u16]) -> u32
     ensures { λ r. ⌜ reading (now (image .entry)) (now (memory .entry)) ≡ record { answer = r; memory = now (memory .exit) } ⌝ }
 {
     let answer = image::read(image, memory);
-    text_answers::of_image(answer)
+    answer.number()
 }
 
 // A memory's image, at the start of the room.
@@ -103,7 +107,7 @@ pub extern "C" fn facetgrove_image_write(
     let written = image::write(memory, room);
     let answer = written.answer;
     *length = [written.length];
-    text_answers::of_image(answer)
+    answer.number()
 }
 
 // The printed microprogram.

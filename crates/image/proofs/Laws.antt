@@ -34,9 +34,9 @@ laid-all words count =
     rw (← zeros) (laid-words 0 [] words (replicate 4 0) refl)
 
 -- Where both sizes are right, the writer puts the image.
-writes : (memory room : List ℕ) → length memory ≡ 4096 → 16368 ≤ length room → writing memory room ≡ filled (imageOf memory) room
+puts : (memory room : List ℕ) → length memory ≡ 4096 → 16368 ≤ length room → writing memory room ≡ filled (imageOf memory) room
 unfolding writing
-writes memory room words enough = rw (eq-eqb _ _ words, le-ltb _ _ enough)
+puts memory room words enough = rw (eq-eqb _ _ words, le-ltb _ _ enough)
 
 -- The image of a memory is accepted, and gives words 0 to 4,091 back.
 module _ (memory : List ℕ) (words : length memory ≡ 4096) (small : (i : ℕ) → getD memory i 0 < 65536) where
@@ -61,7 +61,7 @@ module _ (memory : List ℕ) (words : length memory ≡ 4096) (small : (i : ℕ)
       → reading (take (writing memory room .length) (writing memory room .room)) other ≡ record { answer = 0; memory = take 4092 memory ++ replicate 4 0 }
   unfolding filled
   read-written room other enough size =
-      rw (writes memory room words enough, take-append-seam (imageOf memory) (drop (length (imageOf memory)) room)) (image-read other size)
+      rw (puts memory room words enough, take-append-seam (imageOf memory) (drop (length (imageOf memory)) room)) (image-read other size)
 
 -- Writing what was read gives back the same bytes.
 module _ (image memory : List ℕ) (read : reading image memory .answer ≡ 0) where
@@ -88,7 +88,7 @@ module _ (image memory : List ℕ) (read : reading image memory .answer ≡ 0) w
   pub written-read : ((i : ℕ) → getD image i 0 < 256) → (room : List ℕ) → 16368 ≤ length room
       → writing (reading image memory .memory) room ≡ record { answer = 0; length = length image; room = image ++ drop (length image) room }
   unfolding filled
-  written-read small room enough = writes _ room memory-size enough ∙ ap (λ (bs : List ℕ). filled bs room) (image-back small)
+  written-read small room enough = puts _ room memory-size enough ∙ ap (λ (bs : List ℕ). filled bs room) (image-back small)
 
 -- No second answer satisfies the reader's promise, or the writer's.
 pub reader-decided : (image memory left left′ : List ℕ) (r r′ : Answer)

@@ -44,16 +44,16 @@ one-judged r =
 abbrev pub following : Record → Record → Bool
 following r s = cond (eqb (r .value) 0) false (ltb (r .address .0) (s .address .0))
 
-both : (b c : Bool) → cond b false c ≡ true → (b ≡ false) × (c ≡ true)
-both true c h = let z : _≡_ {A = ℕ} 0 1 = cc in absurd (omega arith)
-both false c h = (refl, h)
+not-then : (b c : Bool) → cond b false c ≡ true → (b ≡ false) × (c ≡ true)
+not-then true c h = let z : _≡_ {A = ℕ} 0 1 = cc in absurd (omega arith)
+not-then false c h = (refl, h)
 
 module _ (r s : Record) (rest : List Record) where
   -- A record that another follows need not be judged: were it too high, so were the other.
   pub followed : following r s ≡ true → firstFault 0 (s ∷ rest) ≡ firstFault 0 (r ∷ s ∷ rest)
   unfolding firstFault fault
   followed h =
-      let parts = both (eqb (r .value) 0) _ h in
+      let parts = not-then (eqb (r .value) 0) _ h in
       let above = ltb-true (r .address .0) (s .address .0) (parts .1) in
       cases (ltb 4091 (r .address .0))
       (λ (high : ltb 4091 (r .address .0) ≡ true).

@@ -1,27 +1,20 @@
--- Laws of records: the record at a place of an image, the first fault of records in turn, and how many bytes records have.
+-- Laws of records: the record that stands at `at` in an image, the first fault of records in turn, and how many bytes records have.
 use Prim.Native.Nat.{ℕ, suc, _+_, _*_, _%_, _≤_, _<_}
 use mathlib.Core.Path.{_≡_, refl, sym, _∙_, ap}
 use mathlib.Core.Bool.{Bool, true, false, cond}
 use mathlib.Core.List.{List, [], _∷_, _++_}
-use native.Mathlib.Numerals.{towards-suc}
 use native.Mathlib.Omega.{arith}
 use lib.ListN.{length, getD, drop, length-append}
-use lib.Seq.{drop-cons}
 use lib.Dec.{ltb, eqb}
 use borrow.Table.Steps.{cases}
 use borrow.Author.Tests.{le-ltb, ltb-false, eqb-true}
 use Rattle.word.specs.Number.{wordOf}
+use Rattle.text.proofs.Bytes.{four}
 use Rattle.image.specs.Records.{records, bytes, fault, firstFault, recordOf, recordsFrom}
 use Rattle.image.specs.Image.{examined}
 use Rattle.image.specs.declared.Record.{Record}
 
--- Four bytes that stand at a place are one record.
-four : (l : List ℕ) (at : ℕ) → at + 4 ≤ length l
-    → drop at l ≡ getD l at 0 ∷ getD l (at + 1) 0 ∷ getD l (at + 2) 0 ∷ getD l (at + 3) 0 ∷ drop (at + 4) l
-four l at fits =
-    simp towards-suc
-    (rw (drop-cons l at 0 (omega arith), drop-cons l (suc at) 0 (omega arith), drop-cons l (suc (suc at)) 0 (omega arith), drop-cons l (suc (suc (suc at))) 0 (omega arith)))
-
+-- Four bytes that stand from `at` on are one record.
 pub record-at : (l : List ℕ) (at : ℕ) → at + 4 ≤ length l
     → records (drop at l)
     ≡ record { address = record { 0 = wordOf (record { 0 = getD l at 0; 1 = getD l (at + 1) 0 }) }; value = wordOf (record { 0 = getD l (at + 2) 0; 1 = getD l (at + 3) 0 }) }

@@ -1,9 +1,8 @@
 -- What the image reader and the image writer answer and leave (01, Answer numbers; Micro text and images).
-use Prim.Native.Nat.{ℕ, _+_, _%_}
+use Prim.Native.Nat.{ℕ, _%_}
 use mathlib.Core.Bool.{cond}
 use mathlib.Core.List.{List, _++_}
 use lib.ListN.{length, take, drop, replicate}
-use lib.Seq.{sets}
 use lib.Dec.{ltb, eqb}
 use Rattle.image.specs.Records.{records, bytes, firstFault, laid, recordsFrom}
 
@@ -48,11 +47,3 @@ writing memory room =
     cond (eqb (length memory) 4096)
     (cond (ltb (length room) 16368) (record { answer = 24; length = 0; room = room }) (filled (imageOf memory) room))
     (record { answer = 1; length = 0; room = room })
-
--- Bytes put into a room from a place on, a step of the writer: the room, and the place after them.
-pub record Put : Type 0 where
-  pub room : List ℕ
-  pub next : ℕ
-
-abbrev pub putAt : ℕ → List ℕ → List ℕ → Put
-putAt at bytes room = record { room = sets room at bytes; next = at + length bytes }

@@ -7,7 +7,8 @@ ghost use lib.ListN.{length, drop, replicate};
 ghost use lib.Dec.{ltb, eqb};
 ghost use Rattle.image.specs.Answers.{number};
 ghost use Rattle.image.specs.Records.{records, bytes, fault, recordOf};
-ghost use Rattle.image.specs.Image.{examined, memoryOf, reading, imageOf, writing, putAt};
+ghost use Rattle.image.specs.Image.{examined, memoryOf, reading, imageOf, writing};
+ghost use Rattle.text.specs.Laid.{Wrote};
 use word::Address;
 
 // The words of main memory.
@@ -19,15 +20,32 @@ const RECORDED: u16 = 4092;
 // The bytes of the longest image.
 const LONGEST: usize = 16368;
 
-// The answers of reader and writer; `number` in specs/ gives the number of each.
+// The answers of reader and writer.
 pub enum Answer {
     Done,
-    MemorySize,
+    WrongSize,
     ImageLength,
     AddressTooHigh,
     AddressNotAbove,
     ValueZero,
     RoomTooSmall,
+}
+
+impl Answer {
+    // Document 01's number of it.
+    pub fn number(self) -> u32
+        ensures { λ r. ⌜ r ≡ number self ⌝ }
+    {
+        match self {
+            Answer::Done => 0,
+            Answer::WrongSize => 1,
+            Answer::ImageLength => 20,
+            Answer::AddressTooHigh => 21,
+            Answer::AddressNotAbove => 22,
+            Answer::ValueZero => 23,
+            Answer::RoomTooSmall => 24,
+        }
+    }
 }
 
 // The writer's answer, and the length of the image that it put; 0 on a refusal.
@@ -42,7 +60,7 @@ struct Record {
     value: u16,
 }
 
-// The record whose four bytes stand at a place.
+// The record whose four bytes stand from `at` on.
 fn record_at(image: &[u8], at: usize) -> Record
     requires { ⌜ at + 4 ≤ length (now image) ⌝ }
     ensures { λ r. ⌜ records (drop at (now (image .entry))) ≡ r ∷ records (drop (at + 4) (now (image .entry))) ⌝ }
@@ -145,8 +163,8 @@ fn lay(image: &[u8], memory: &mut [u16])
     let mut at: usize = 0;
     while at < image.len() {
         let next = record_at(image, at);
-        let place = next.address.0 as usize;
-        memory[place] = next.value;
+        let index = next.address.0 as usize;
+        memory[index] = next.value;
         at += 4;
     }
 }
@@ -156,7 +174,7 @@ pub fn read(image: &[u8], memory: &mut [u16]) -> Answer
     ensures { λ r. ⌜ reading (now (image .entry)) (now (memory .entry)) ≡ record { answer = number r; memory = now (memory .exit) } ⌝ }
 {
     if memory.len() != WORDS {
-        return Answer::MemorySize;
+        return Answer::WrongSize;
     }
     let answer = examine(image);
     if is_done(answer) {
@@ -165,27 +183,27 @@ pub fn read(image: &[u8], memory: &mut [u16]) -> Answer
     answer
 }
 
-// Puts a word's record into the room, and none for a word that is 0. Gives the place after it.
+// Puts a word's record into the room, and none for a word that is 0. Gives where it ends.
 fn put(room: &mut [u8], at: usize, address: Address, value: u16) -> usize
     requires { ⌜ at + 4 ≤ length (now room) ⌝ }
-    ensures { λ r. ⌜ putAt at (bytes (recordOf (address .0) value)) (now (room .entry)) ≡ record { room = now (room .exit); next = r } ⌝ }
+    ensures { λ r. ⌜ Wrote (now (room .entry)) at (bytes (recordOf (address .0) value)) (now (room .exit)) r ⌝ }
 {
     if value == 0 {
         return at;
     }
-    let place = word::to_bytes(address.0);
-    let word = word::to_bytes(value);
-    room[at] = place.0;
-    room[at + 1] = place.1;
-    room[at + 2] = word.0;
-    room[at + 3] = word.1;
+    let front = word::to_bytes(address.0);
+    let back = word::to_bytes(value);
+    room[at] = front.0;
+    room[at + 1] = front.1;
+    room[at + 2] = back.0;
+    room[at + 3] = back.1;
     at + 4
 }
 
 // Puts the image of a memory into the room. Gives its length.
 fn put_all(memory: &[u16], room: &mut [u8]) -> usize
     requires { ⌜ (length (now memory) ≡ 4096) × (16368 ≤ length (now room)) ⌝ }
-    ensures { λ r. ⌜ putAt 0 (imageOf (now (memory .entry))) (now (room .entry)) ≡ record { room = now (room .exit); next = r } ⌝ }
+    ensures { λ r. ⌜ Wrote (now (room .entry)) 0 (imageOf (now (memory .entry))) (now (room .exit)) r ⌝ }
 {
     let mut at: usize = 0;
     let mut address: u16 = 0;
@@ -203,7 +221,7 @@ pub fn write(memory: &[u16], room: &mut [u8]) -> Written
 {
     if memory.len() != WORDS {
         return Written {
-            answer: Answer::MemorySize,
+            answer: Answer::WrongSize,
             length: 0,
         };
     }

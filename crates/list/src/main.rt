@@ -4,13 +4,16 @@ ghost use mathlib.Core.List.{_∷_};
 ghost use Prim.Native.Nat.{_+_, _≤_};
 ghost use lib.ListN.{length as Lib·length, take, drop};
 ghost use Rattle.io.specs.Counts.{Counts};
-ghost use Rattle.list.specs.Listing.{wordsOf, told, printed};
+ghost use Rattle.list.specs.Listing.{wordsOf, withWords, told, printed};
 ghost use Rattle.lister.specs.Answers.{seen};
-use console::Input;
 use lister::Answer;
+use word::Line;
 
-// The control word whose four bytes stand at a place.
-fn word_at(input: &[u8], at: usize) -> u32
+// The lines of a control store.
+const LINES: u8 = 64;
+
+// The control word whose four bytes stand from `at` on.
+fn word_of_bytes(input: &[u8], at: usize) -> u32
     requires { ⌜ at + 4 ≤ Lib·length (now input) ⌝ }
     ensures { λ r. ⌜ wordsOf (drop at (now (input .entry))) ≡ r ∷ wordsOf (drop (at + 4) (now (input .entry))) ⌝ }
 {
@@ -19,15 +22,16 @@ fn word_at(input: &[u8], at: usize) -> u32
     word::put_below(high as u32, 16, low as u32)
 }
 
-// The control words of an input.
+// The control words of an input, into a store.
 fn fill(store: &mut [u32], input: &[u8])
-    requires { ⌜ (Lib·length (now store) ≡ 64) × (Lib·length (now input) ≡ 256) ⌝ }
-    ensures { λ _. ⌜ now (store .exit) ≡ wordsOf (now (input .entry)) ⌝ }
+    requires { ⌜ Lib·length (now input) ≡ 256 ⌝ }
+    ensures { λ _. ⌜ now (store .exit) ≡ withWords (now (store .entry)) 0 (wordsOf (now (input .entry))) ⌝ }
 {
-    let mut i: usize = 0;
-    while i < store.len() {
-        store[i] = word_at(input, 4 * i);
-        i += 1;
+    let mut line: u8 = 0;
+    while line < LINES {
+        let word = word_of_bytes(input, 4 * line as usize);
+        store::put_word(store, Line(line), word);
+        line += 1;
     }
 }
 
@@ -39,10 +43,8 @@ fn tell(answer: Answer, length: usize, room: &mut [u8]) -> usize
 {
     match answer {
         Answer::Done => length,
-        Answer::WrongStore => console::refusal(1, room),
-        Answer::SmallRoom => console::refusal(16, room),
-        Answer::BadWord(line) => console::bad_word(line, room),
-        Answer::PastRoom => console::refusal(17, room),
+        Answer::BadWord(_) => console::refusal_at(answer.number(), answer.line(), room),
+        _ => console::refusal(answer.number(), room),
     }
 }
 
@@ -53,7 +55,7 @@ fn text(input: &[u8], room: &mut [u8]) -> usize
     ensures { λ r. ⌜ Counts r (now (room .exit)) ⌝ }
 {
     if input.len() != 256 {
-        return console::refusal(1, room);
+        return console::refusal(Answer::WrongSize.number(), room);
     }
     let mut store = [0u32; 64];
     fill(&mut store, input);
@@ -62,17 +64,15 @@ fn text(input: &[u8], room: &mut [u8]) -> usize
     tell(answer, listed.length, room)
 }
 
-// A read that fails prints nothing; output that could not be written is said on standard error.
+// A read that fails prints nothing.
 fn main() {
     let mut input = [0u8; 257];
-    let got = console::read_all(&mut input);
-    let Input::Read(n) = got else {
-        os::fail(b"list: standard input");
+    let got = console::read_input(b"list", &mut input);
+    if got.failed {
         return;
-    };
+    }
+    let n = got.length;
     let mut room = [0u8; 2816];
     let length = text(&input[..n], &mut room);
-    if !console::write_out(&room[..length]) {
-        os::fail(b"list: standard output");
-    }
+    console::print(b"list", &room[..length]);
 }

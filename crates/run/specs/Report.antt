@@ -12,8 +12,8 @@ use Rattle.console.specs.Text.{refusal, report}
 use Rattle.console.specs.declared.Run.{Run}
 
 -- All registers 0 and a log of 8 words. (MASC 4,095 is no register of the interpreter's.)
-abbrev pub begun : List ℕ → State
-begun memory = record { cp = 0; pp = 0; ac = 0; place = 0; count = 0; memory = memory; log = replicate 8 0 }
+abbrev pub started : List ℕ → State
+started memory = record { cp = 0; pp = 0; ac = 0; place = 0; count = 0; memory = memory; log = replicate 8 0 }
 
 -- Fields: answer number, instructions done, table cycles, registers, log count.
 abbrev pub fields : Turned State → Run
@@ -34,7 +34,7 @@ reported e = report (fields e) (e .state .log)
 
 -- The report of a memory's run: no input, 1,000 instructions.
 unfoldable pub ran : List ℕ → List ℕ
-ran memory = reported (runs [] 1000 (begun memory))
+ran memory = reported (runs [] 1000 (started memory))
 
 -- A refused input prints only `answer` and the number.
 unfoldable pub told : Reading → List ℕ

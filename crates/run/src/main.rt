@@ -4,13 +4,15 @@ ghost use Prim.Native.Nat.{_≤_};
 ghost use lib.ListN.{length as Lib·length, take};
 ghost use Rattle.io.specs.Counts.{Counts};
 ghost use Rattle.run.specs.Report.{ran, printed};
-use console::Input;
 use console::Run;
 use instruction::Cpu;
 use word::Address;
 
 // The bytes of the longest image.
 const LONGEST: usize = 16368;
+
+// Document 01's number of the one refusal that is the program's own: more input than any image has.
+const TOO_LONG: u32 = 25;
 
 // The report of a memory's run, at the front of the room.
 fn run_memory(memory: &mut [u16], room: &mut [u8]) -> usize
@@ -51,28 +53,26 @@ fn text(input: &[u8], room: &mut [u8]) -> usize
     ensures { λ r. ⌜ Counts r (now (room .exit)) ⌝ }
 {
     if LONGEST < input.len() {
-        return console::refusal(25, room);
+        return console::refusal(TOO_LONG, room);
     }
     let mut memory = [0u16; 4096];
     let read = image::read(input, &mut memory);
-    let answer = text_answers::of_image(read);
+    let answer = read.number();
     if answer != 0 {
         return console::refusal(answer, room);
     }
     run_memory(&mut memory, room)
 }
 
-// A read that fails runs nothing; output that could not be written is said on standard error.
+// A read that fails runs nothing.
 fn main() {
     let mut input = [0u8; 16369];
-    let got = console::read_all(&mut input);
-    let Input::Read(n) = got else {
-        os::fail(b"run: standard input");
+    let got = console::read_input(b"run", &mut input);
+    if got.failed {
         return;
-    };
+    }
+    let n = got.length;
     let mut room = [0u8; 512];
     let length = text(&input[..n], &mut room);
-    if !console::write_out(&room[..length]) {
-        os::fail(b"run: standard output");
-    }
+    console::print(b"run", &room[..length]);
 }

@@ -1,11 +1,14 @@
 -- Laws of text laid into a room: texts laid one behind the other, text at a room's start, and that no second answer satisfies the promise.
 use Prim.Native.Nat.{ℕ, suc, _+_, _≤_, _<_}
 use mathlib.Core.Path.{_≡_, refl, sym, ap, ap₂, subst, _∙_}
+use mathlib.Core.Bool.{true, false}
 use mathlib.Core.List.{List, [], _∷_, _++_}
 use native.Mathlib.Numerals.{add-one}
 use native.Mathlib.Nat.{add-zero, add-suc, suc-add}
 use native.Mathlib.Omega.{arith}
-use borrow.Author.Tests.{lt-ltb, le-ltb}
+use borrow.Table.Steps.{cases}
+use borrow.Author.Tests.{lt-ltb, le-ltb, ltb-false}
+use lib.Dec.{ltb}
 use lib.ListN.{length, getD, take, drop, set, length-append}
 use lib.Seq.{sets, sets-eq, drop-cons, take-at}
 use Rattle.text.specs.Laid.{Laid, laid, Wrote}
@@ -32,6 +35,15 @@ laid-stored {room} {at = at} {text = text} fits w =
 pub not-laid : (room : List ℕ) (at : ℕ) (text : List ℕ) → length room < at + length text → laid room at text ≡ record { room = room; next = at }
 unfolding laid
 not-laid room at text past = rw (lt-ltb _ _ past)
+
+-- What is laid from within a room ends within it.
+pub laid-within : (room : List ℕ) (at : ℕ) (text : List ℕ) {left : List ℕ} {next : ℕ} → at ≤ length room
+    → laid room at text ≡ record { room = left; next = next } → next ≤ length room
+unfolding laid
+laid-within room at text inside e =
+    let fits = ltb (length room) (at + length text) in
+    cases fits (λ (past : fits ≡ true). omega (arith, ap (λ (l : Laid). l .next) (rw past at e)))
+    (λ (whole : fits ≡ false). omega (arith, ltb-false (length room) (at + length text) whole, ap (λ (l : Laid). l .next) (rw whole at e)))
 
 -- Text stored behind text is the two stored as one.
 sets-append : (text more room : List ℕ) (at : ℕ) → sets room at (text ++ more) ≡ sets (sets room at text) (at + length text) more
@@ -69,6 +81,19 @@ same-text {room} {left} {at} {next} e w = subst (λ (t : List ℕ). Wrote room a
 
 pub nothing : {room : List ℕ} {at : ℕ} → Wrote room at [] room at
 nothing {at = at} = record { stored = refl; behind = sym (add-zero at) }
+
+-- What is still to be laid of a whole text: laid from where one stands, it gives what the whole gives.
+pub record Still (start : List ℕ) (from : ℕ) (whole room : List ℕ) (at : ℕ) (rest : List ℕ) : Type 0 where
+  pub stored : sets room at rest ≡ sets start from whole
+  pub behind : at + length rest ≡ from + length whole
+
+pub goes-on : {start room left : List ℕ} {from at next : ℕ} {whole text rest : List ℕ}
+    → Still start from whole room at (text ++ rest) → Wrote room at text left next → Still start from whole left next rest
+goes-on {text = text} {rest = rest} s w =
+    record { stored = stored-on w rest ∙ s .stored; behind = omega (arith, w .behind, s .behind, length-append text rest) }
+
+pub all-laid : {start room : List ℕ} {from at : ℕ} {whole : List ℕ} → Still start from whole room at [] → Wrote start from whole room at
+all-laid s = record { stored = s .stored; behind = omega (arith, s .behind) }
 
 -- A turn of the copying loop.
 pub put-next : (room text : List ℕ) (at i : ℕ) → i < length text

@@ -37,10 +37,10 @@ impl Case {
                 |lent| Model.interpreter_run(lent, *instructions),
             ),
             Case::Assemble { text, store } => {
-                compare(store, |lent| tested.assemble(text, lent), |lent| Model.assemble(text, lent))
+                compare(store, |lent| tested.micro_assemble(text, lent), |lent| Model.micro_assemble(text, lent))
             }
             Case::List { store, room } => {
-                compare(room, |lent| tested.list(store, lent), |lent| Model.list(store, lent))
+                compare(room, |lent| tested.micro_list(store, lent), |lent| Model.micro_list(store, lent))
             }
             Case::ImageRead { image, memory } => {
                 compare(memory, |lent| tested.image_read(image, lent), |lent| Model.image_read(image, lent))

@@ -52,9 +52,9 @@ impl Functions for Faulty {
         sum
     }
 
-    fn assemble(&self, text: &[u8], store: &mut [u32]) -> Told {
+    fn micro_assemble(&self, text: &[u8], store: &mut [u32]) -> Told {
         let found = store.to_vec();
-        let told = Model.assemble(text, store);
+        let told = Model.micro_assemble(text, store);
         if matches!(self, Faulty::Target63Refused) && told.answer == 0 && store.iter().any(|word| word & 63 == 63) {
             store.copy_from_slice(&found);
             return Told::answer(14);
@@ -62,8 +62,8 @@ impl Functions for Faulty {
         told
     }
 
-    fn list(&self, store: &[u32], room: &mut [u8]) -> Told {
-        Model.list(store, room)
+    fn micro_list(&self, store: &[u32], room: &mut [u8]) -> Told {
+        Model.micro_list(store, room)
     }
 
     fn image_read(&self, image: &[u8], memory: &mut [u16]) -> Told {

@@ -260,13 +260,13 @@ fn damage_image(random: &mut Random, image: &mut Vec<u8>) {
     if image.is_empty() {
         return image.push(random.byte());
     }
-    let place = random.within(0..=image.len() - 1);
-    let record = place / 4 * 4;
+    let at = random.within(0..=image.len() - 1);
+    let record = at / 4 * 4;
     match random.within(0..=5) {
-        0 => image[place] = random.byte(),
-        1 => image.insert(place, random.byte()),
-        2 => drop(image.remove(place)),
-        3 => image.truncate(place),
+        0 => image[at] = random.byte(),
+        1 => image.insert(at, random.byte()),
+        2 => drop(image.remove(at)),
+        3 => image.truncate(at),
         4 => image.extend_from_within(record..),
         _ => image.rotate_left(record),
     }

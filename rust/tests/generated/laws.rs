@@ -9,12 +9,12 @@ const PORTS_FROM: usize = 4092;
 /// Assembling a listing gives the normal forms.
 pub fn listing_back(tested: &dyn Functions, store: &[u32]) -> Option<String> {
     let mut room = vec![0; facetgrove::LISTING_ROOM];
-    let listed = tested.list(store, &mut room);
+    let listed = tested.micro_list(store, &mut room);
     if listed.answer != 0 {
         return Some(format!("the lister refused: {listed:?}"));
     }
     let mut back = vec![u32::MAX; STORE_WORDS];
-    let assembled = tested.assemble(&room[..listed.done as usize], &mut back);
+    let assembled = tested.micro_assemble(&room[..listed.done as usize], &mut back);
     let expected: Vec<u32> = store.iter().map(|&word| normal(word)).collect();
     (assembled.answer != 0 || back != expected)
         .then(|| format!("assembler {assembled:?}\n{}", differing("assembled", &back, "normal", &expected)))

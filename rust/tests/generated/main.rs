@@ -56,8 +56,8 @@ fn every_answer_is_reached() {
         ("engine_run", &[0, 1, 2, 3, 4, 5]),
         ("press", &[0, 1, 2, 3, 4, 5]),
         ("interpreter_run", &[0, 1, 2, 3, 5]),
-        ("assemble", &[0, 1, 10, 11, 12, 13, 14, 15]),
-        ("list", &[0, 1, 4, 16]),
+        ("micro_assemble", &[0, 1, 10, 11, 12, 13, 14, 15]),
+        ("micro_list", &[0, 1, 4, 16]),
         ("image_read", &[0, 1, 20, 21, 22, 23]),
         ("image_write", &[0, 1, 24]),
     ];

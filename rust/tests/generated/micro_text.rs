@@ -56,9 +56,9 @@ impl Author<'_> {
         let mut parts = if self.slips(4) { self.any_parts() } else { self.parts_that_go_together() };
         let count = parts.len();
         parts.rotate_left(self.random.within(0..=count));
-        for (place, part) in parts.iter().enumerate() {
+        for (index, part) in parts.iter().enumerate() {
             self.tokens(part);
-            if place + 1 < count || self.random.once_in(2) {
+            if index + 1 < count || self.random.once_in(2) {
                 self.text.push(';');
             }
         }
@@ -84,18 +84,18 @@ impl Author<'_> {
     }
 
     fn parts_that_go_together(&mut self) -> Vec<Tokens> {
-        let place = match self.random.within(0..=3) {
+        let into = match self.random.within(0..=3) {
             0 => None,
             1 => Some("alu"),
             _ => Some(register(self.random)),
         };
-        let test = match place {
+        let test = match into {
             None => false,
             Some("alu") => true,
             Some(_) => self.random.once_in(2),
         };
         let mut parts = Vec::new();
-        parts.extend(place.map(|place| operation(self.random, place)));
+        parts.extend(into.map(|into| operation(self.random, into)));
         if self.random.once_in(2) {
             parts.push(vec![self.random.pick(&["rd", "wr"]).to_string()]);
         }
@@ -113,12 +113,12 @@ impl Author<'_> {
 
     fn any_part(&mut self) -> Tokens {
         let test = self.random.once_in(2);
-        let place = if self.random.once_in(3) { "alu" } else { register(self.random) };
+        let into = if self.random.once_in(3) { "alu" } else { register(self.random) };
         match self.random.within(0..=3) {
             0 => vec!["rd".to_string()],
             1 => vec!["wr".to_string()],
             2 => self.jump(test),
-            _ => operation(self.random, place),
+            _ => operation(self.random, into),
         }
     }
 
@@ -138,7 +138,7 @@ impl Author<'_> {
     }
 }
 
-fn operation(random: &mut Random, place: &str) -> Tokens {
+fn operation(random: &mut Random, into: &str) -> Tokens {
     let (a, b) = (register(random), register(random));
     let right: &[&str] = match random.within(0..=7) {
         0 => &[a],
@@ -152,7 +152,7 @@ fn operation(random: &mut Random, place: &str) -> Tokens {
     };
     let bracketed = random.once_in(3);
     let (open, close): (&[&str], &[&str]) = if bracketed { (&["("], &[")"]) } else { (&[], &[]) };
-    [&[place, ":="], open, right, close].concat().iter().map(|token| token.to_string()).collect()
+    [&[into, ":="], open, right, close].concat().iter().map(|token| token.to_string()).collect()
 }
 
 fn register(random: &mut Random) -> &'static str {
@@ -163,17 +163,17 @@ fn damage(random: &mut Random, text: &mut Vec<u8>) {
     if text.is_empty() {
         return text.push(random.byte());
     }
-    let place = random.within(0..=text.len() - 1);
-    let end = random.within(place..=text.len().min(place + 12));
+    let at = random.within(0..=text.len() - 1);
+    let end = random.within(at..=text.len().min(at + 12));
     match random.within(0..=7) {
-        0 => text[place] = byte_of_note(random),
-        1 => text.insert(place, byte_of_note(random)),
-        2 => drop(text.drain(place..end)),
-        3 => drop(text.splice(place..place, text[place..end].to_vec())),
-        4 => text[place..end].rotate_left((end - place) / 2),
-        5 => text.truncate(place),
-        6 => text[place] ^= 1 << random.within(0..=7),
-        _ => drop(text.splice(place..place, random.pick(&WORDS_OF_NOTE).bytes())),
+        0 => text[at] = byte_of_note(random),
+        1 => text.insert(at, byte_of_note(random)),
+        2 => drop(text.drain(at..end)),
+        3 => drop(text.splice(at..at, text[at..end].to_vec())),
+        4 => text[at..end].rotate_left((end - at) / 2),
+        5 => text.truncate(at),
+        6 => text[at] ^= 1 << random.within(0..=7),
+        _ => drop(text.splice(at..at, random.pick(&WORDS_OF_NOTE).bytes())),
     }
 }
 
@@ -206,9 +206,9 @@ fn byte_of_note(random: &mut Random) -> u8 {
 
 /// Brings the text to just about the longest length with spaces or with anything.
 fn pad(random: &mut Random, text: &mut Vec<u8>) {
-    let place = random.within(0..=text.len());
+    let at = random.within(0..=text.len());
     let length = random.pick(&[TEXT_BYTES - 1, TEXT_BYTES, TEXT_BYTES, TEXT_BYTES + 1, 20_000]);
     let filling = random.pick(b"   \na0");
     let missing = length.saturating_sub(text.len());
-    drop(text.splice(place..place, std::iter::repeat_n(filling, missing)));
+    drop(text.splice(at..at, std::iter::repeat_n(filling, missing)));
 }

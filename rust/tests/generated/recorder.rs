@@ -32,12 +32,12 @@ impl Functions for Recorder {
         self.record("interpreter_run", Model.interpreter_run(cpu, instructions))
     }
 
-    fn assemble(&self, text: &[u8], store: &mut [u32]) -> Told {
-        self.record("assemble", Model.assemble(text, store))
+    fn micro_assemble(&self, text: &[u8], store: &mut [u32]) -> Told {
+        self.record("micro_assemble", Model.micro_assemble(text, store))
     }
 
-    fn list(&self, store: &[u32], room: &mut [u8]) -> Told {
-        self.record("list", Model.list(store, room))
+    fn micro_list(&self, store: &[u32], room: &mut [u8]) -> Told {
+        self.record("micro_list", Model.micro_list(store, room))
     }
 
     fn image_read(&self, image: &[u8], memory: &mut [u16]) -> Told {

@@ -21,7 +21,7 @@ pub fn differing(one: &str, left: &impl Named, other: &str, right: &impl Named) 
 }
 
 fn list<T: Copy + Into<u64>>(name: &str, items: &[T]) -> Vec<(String, u64)> {
-    let each = items.iter().enumerate().map(|(place, &item)| (format!("{name}[{place}]"), item.into()));
+    let each = items.iter().enumerate().map(|(index, &item)| (format!("{name}[{index}]"), item.into()));
     std::iter::once((format!("{name} length"), items.len() as u64)).chain(each).collect()
 }
 

@@ -171,13 +171,13 @@ fn without_a_bit<T>(list: &[T]) -> impl Iterator<Item = Vec<T>> + '_
 where
     T: Copy + Into<u64> + TryFrom<u64>,
 {
-    let places = (0..list.len()).filter(|&place| list[place].into() != 0);
-    places.flat_map(move |place| {
-        let word: u64 = list[place].into();
+    let indices = (0..list.len()).filter(|&index| list[index].into() != 0);
+    indices.flat_map(move |index| {
+        let word: u64 = list[index].into();
         let bits = (0..64).rev().filter(move |bit| word >> bit & 1 == 1);
         bits.filter_map(move |bit| {
             let mut smaller = list.to_vec();
-            smaller[place] = T::try_from(word & !(1 << bit)).ok()?;
+            smaller[index] = T::try_from(word & !(1 << bit)).ok()?;
             Some(smaller)
         })
     })

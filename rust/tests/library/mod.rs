@@ -41,12 +41,12 @@ impl Functions for Safe {
         told(ran.outcome, ran.done.into(), ran.cycles)
     }
 
-    fn assemble(&self, text: &[u8], store: &mut [u32]) -> Told {
-        told(facetgrove::assemble(text, store), 0, 0)
+    fn micro_assemble(&self, text: &[u8], store: &mut [u32]) -> Told {
+        told(facetgrove::micro_assemble(text, store), 0, 0)
     }
 
-    fn list(&self, store: &[u32], room: &mut [u8]) -> Told {
-        let listed = facetgrove::list(store, room);
+    fn micro_list(&self, store: &[u32], room: &mut [u8]) -> Told {
+        let listed = facetgrove::micro_list(store, room);
         told(listed.map(|_| ()), listed.unwrap_or(0) as u64, 0)
     }
 
@@ -87,54 +87,61 @@ fn told(outcome: Result<(), Refusal>, done: u64, extra: u64) -> Told {
     }
 }
 
+/// What a call of the C interface tells of the machine, whose place, count, line and half done it takes as one list.
+fn told_by(machine: &mut Machine, call: impl FnOnce(&mut Machine, &mut [usize; 4], &mut [usize; 2]) -> u32) -> Told {
+    let mut state = [machine.plant.place, machine.plant.count, machine.line, machine.half];
+    let mut said = [usize::MAX; 2];
+    let answer = call(machine, &mut state, &mut said);
+    [machine.plant.place, machine.plant.count, machine.line, machine.half] = state;
+    Told { answer, done: said[0] as u64, extra: said[1] as u64 }
+}
+
 impl Functions for Raw {
     fn engine_run(&self, machine: &mut Machine, cycles: u32) -> Told {
-        let plant = &mut machine.plant;
-        let mut state = [plant.place, plant.count, machine.line, machine.half];
-        let mut said = [usize::MAX; 2];
-        // SAFETY: every pointer comes from a list or an array with its length, and those written to are borrowed alone.
-        let answer = unsafe {
-            raw::facetgrove_engine_run(
-                machine.store.as_ptr(),
-                machine.store.len(),
-                plant.memory.as_mut_ptr(),
-                plant.memory.len(),
-                plant.input.as_ptr(),
-                plant.input.len(),
-                plant.log.as_mut_ptr(),
-                plant.log.len(),
-                &mut machine.registers,
-                &mut state,
-                cycles,
-                &mut said,
-            )
-        };
-        [plant.place, plant.count, machine.line, machine.half] = state;
-        Told { answer, done: said[0] as u64, extra: said[1] as u64 }
+        told_by(machine, |machine, state, said| {
+            let plant = &mut machine.plant;
+            // SAFETY: every pointer comes from a list or an array with its length, and those written to are borrowed
+            // alone.
+            unsafe {
+                raw::facetgrove_engine_run(
+                    machine.store.as_ptr(),
+                    machine.store.len(),
+                    plant.memory.as_mut_ptr(),
+                    plant.memory.len(),
+                    plant.input.as_ptr(),
+                    plant.input.len(),
+                    plant.log.as_mut_ptr(),
+                    plant.log.len(),
+                    &mut machine.registers,
+                    state,
+                    cycles,
+                    said,
+                )
+            }
+        })
     }
 
     fn press(&self, machine: &mut Machine) -> Told {
-        let plant = &mut machine.plant;
-        let mut state = [plant.place, plant.count, machine.line, machine.half];
-        let mut said = [usize::MAX; 2];
-        // SAFETY: every pointer comes from a list or an array with its length, and those written to are borrowed alone.
-        let answer = unsafe {
-            raw::facetgrove_press(
-                &mut machine.registers,
-                &mut state,
-                plant.memory.as_mut_ptr(),
-                plant.memory.len(),
-                plant.input.as_ptr(),
-                plant.input.len(),
-                plant.log.as_mut_ptr(),
-                plant.log.len(),
-                machine.store.as_ptr(),
-                machine.store.len(),
-                &mut said,
-            )
-        };
-        [plant.place, plant.count, machine.line, machine.half] = state;
-        Told { answer, done: said[0] as u64, extra: said[1] as u64 }
+        told_by(machine, |machine, state, said| {
+            let plant = &mut machine.plant;
+            // SAFETY: every pointer comes from a list or an array with its length, and those written to are borrowed
+            // alone.
+            unsafe {
+                raw::facetgrove_press(
+                    &mut machine.registers,
+                    state,
+                    plant.memory.as_mut_ptr(),
+                    plant.memory.len(),
+                    plant.input.as_ptr(),
+                    plant.input.len(),
+                    plant.log.as_mut_ptr(),
+                    plant.log.len(),
+                    machine.store.as_ptr(),
+                    machine.store.len(),
+                    said,
+                )
+            }
+        })
     }
 
     fn interpreter_run(&self, cpu: &mut Cpu, instructions: u32) -> Told {
@@ -162,16 +169,19 @@ impl Functions for Raw {
         Told { answer, done: said[0], extra: said[1] }
     }
 
-    fn assemble(&self, text: &[u8], store: &mut [u32]) -> Told {
+    fn micro_assemble(&self, text: &[u8], store: &mut [u32]) -> Told {
         // SAFETY: both pointers come from slices with their lengths, and the store is borrowed alone.
-        Told::answer(unsafe { raw::facetgrove_assemble(text.as_ptr(), text.len(), store.as_mut_ptr(), store.len()) })
+        Told::answer(unsafe {
+            raw::facetgrove_micro_assemble(text.as_ptr(), text.len(), store.as_mut_ptr(), store.len())
+        })
     }
 
-    fn list(&self, store: &[u32], room: &mut [u8]) -> Told {
+    fn micro_list(&self, store: &[u32], room: &mut [u8]) -> Told {
         let mut said = [usize::MAX; 2];
         // SAFETY: every pointer comes from a slice or an array with its length, and the room is borrowed alone.
-        let answer =
-            unsafe { raw::facetgrove_list(store.as_ptr(), store.len(), room.as_mut_ptr(), room.len(), &mut said) };
+        let answer = unsafe {
+            raw::facetgrove_micro_list(store.as_ptr(), store.len(), room.as_mut_ptr(), room.len(), &mut said)
+        };
         Told { answer, done: said[0] as u64, extra: said[1] as u64 }
     }
 

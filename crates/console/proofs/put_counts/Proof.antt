@@ -35,7 +35,9 @@ same-length c = search needs
 
 returns : tie.Need-returns
 unfolding counts
-returns c = (c .before .before .before .before .before .before .before .before .before .before .before .before .before .put-labelled .ensures .0 then c .before .before .before .before .before .before .before .put-labelled2 .ensures .0 then c .before .before .put-labelled3 .ensures .0, omega arith)
+returns c = let second = c .before .before .before .before .before .before .before in
+    let first = second .before .before .before .before .before .before in
+    (first .put-labelled .ensures .0 then second .put-labelled2 .ensures .0 then c .before .before .put-labelled3 .ensures .0, omega arith)
 
 pub put-counts-spec : {M : Type 1} → statement M
 put-counts-spec =

@@ -1,13 +1,11 @@
 -- `put_line` puts the pieces of the line in turn, then byte 10.
-use Prim.Native.Nat.{_+_}
-use mathlib.Core.Path.{refl, _∙_}
-use mathlib.Core.List.{[], _∷_}
+use mathlib.Core.Path.{_∙_}
 use native.Mathlib.Omega.{arith}
-use lib.ListN.{set, length-set}
+use lib.ListN.{length-set}
 use borrow.Author.Needs.{needs}
-use Rattle.text.specs.Laid.{Wrote}
 use Rattle.text.proofs.Laid.{_then_}
 use Rattle.console.specs.Text.{line}
+use Rattle.console.proofs.Laws.{ended}
 use Rattle.console.proofs.put_line.Statement.{statement}
 use Rattle.console.proofs.put_line.Tie as tie
 
@@ -31,15 +29,16 @@ add-result c = search needs
 
 same-length : tie.Need-same-length
 same-length c = let w = c .before .before .put-labelled in
-    length-set (w .last .0) (w .result) 10 ∙ w .kept .0 ∙ c .before .before .before .before .before .before .before .put-registers .kept .0 ∙ c .before .before .before .before .before .before .before .before .before .before .before .put-counts .kept .0
+    let second = c .before .before .before .before .before .before .before in
+    length-set (w .last .0) (w .result) 10 ∙ w .kept .0 ∙ second .put-registers .kept .0 ∙ second .before .before .before .before .put-counts .kept .0
 
 returns : tie.Need-returns
 unfolding line
 returns c = let w = c .before .before .put-labelled in
-    let counted = c .before .before .before .before .before .before .before .before .before .before .before .put-counts .ensures in
-    let stood = c .before .before .before .before .before .before .before .put-registers .ensures in
-    let end : Wrote (w .last .0) (w .result) (10 ∷ []) (set (w .last .0) (w .result) 10) (w .result + 1) = record { stored = refl; behind = refl } in
-    (counted .0 then stood .0 then w .ensures .0 then end, omega (arith, w .ensures .1, stood .1, counted .1))
+    let second = c .before .before .before .before .before .before .before in
+    let counted = second .before .before .before .before .put-counts .ensures in
+    let stood = second .put-registers .ensures in
+    (ended (counted .0 then stood .0 then w .ensures .0), omega (arith, w .ensures .1, stood .1, counted .1))
 
 pub put-line-spec : {M : Type 1} → statement M
 put-line-spec =

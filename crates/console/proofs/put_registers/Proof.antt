@@ -39,10 +39,14 @@ same-length c = search needs
 
 returns : tie.Need-returns
 unfolding registers
-returns c = let first = c .before .before .before .before .before .before .before .before .before .before .before .before .before .before .before .before .before .put-labelled .ensures in
-    let next = c .before .before .before .before .before .before .before .before .before .before .before .put-labelled2 .ensures in
-    let label = wrote (omega (arith, first .1, next .1)) (c .before .before .before .before .before .before .put .ensures) in
-    (first .0 then next .0 then label then c .before .before .put-signed .ensures .0, omega (arith, label .behind, next .1, first .1))
+returns c = let third = c .before .before .before .before .before .before in
+    let second = third .before .before .before .before .before in
+    let first = second .before .before .before .before .before .before in
+    let cp = first .put-labelled in
+    let pp = second .put-labelled2 in
+    let ac = c .before .before .put-signed .ensures in
+    let label = wrote (omega (arith, cp .ensures .1, cp .kept .0, pp .ensures .1, pp .kept .0, first .before .before .before .before .before .pre)) (third .put .ensures) in
+    (cp .ensures .0 then pp .ensures .0 then label then ac .0, omega (arith, cp .ensures .1, pp .ensures .1, label .behind, ac .1))
 
 pub put-registers-spec : {M : Type 1} → statement M
 put-registers-spec =

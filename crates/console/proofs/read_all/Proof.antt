@@ -26,7 +26,7 @@ abbrev μ-loop : tie.MeasureT-loop
 μ-loop buffer₀ done₀ buffer done = length buffer - done
 
 loop-holds : tie.Need-loop-holds Inv-loop μ-loop
-loop-holds c = search needs
+loop-holds c = (refl, omega arith)
 
 sub-read-some : tie.Need-sub-read-some Inv-loop μ-loop
 sub-read-some c = omega arith
@@ -40,53 +40,37 @@ part-read-some-end c = omega arith
 read-some-requires : tie.Need-read-some-requires Inv-loop μ-loop
 read-some-requires c κs = search needs
 
-enum-known-piece : tie.Need-enum-known-piece Inv-loop μ-loop
-enum-known-piece c = search needs
-
-enum-told : tie.Need-enum-told Inv-loop μ-loop
-enum-told c = search needs
-
 same-length : tie.Need-same-length Inv-loop μ-loop
 same-length c = let r = c .before .before .before .before .read-some in
     let l = c .before .before .before .before .before .before .before .loop in
     same-len-mid (l .done) (length (l .buffer) - l .done) (l .buffer) (r .last .0) (r .kept .0) ∙ l .inv .0
 
 returns : tie.Need-returns Inv-loop μ-loop
-returns c = tt
-
-same-length-2 : tie.Need-same-length-2 Inv-loop μ-loop
-same-length-2 c = let r = c .before .before .before .before .before .before .read-some in
-    let l = c .before .before .before .before .before .before .before .before .before .loop in
-    same-len-mid (l .done) (length (l .buffer) - l .done) (l .buffer) (r .last .0) (r .kept .0) ∙ l .inv .0
-
-returns-2 : tie.Need-returns-2 Inv-loop μ-loop
-returns-2 c = let r = c .before .before .before .before .before .before .read-some in
-    let l = c .before .before .before .before .before .before .before .before .before .loop in
+returns c = let r = c .before .before .before .before .read-some in
+    let l = c .before .before .before .before .before .before .before .loop in
     counted (l .buffer) _ (l .done) (same-len-mid (l .done) (length (l .buffer) - l .done) (l .buffer) (r .last .0) (r .kept .0)) (l .inv .1)
 
 add-done : tie.Need-add-done Inv-loop μ-loop
-add-done c = let r = c .before .before .before .before .before .before .read-some in
-    let l = c .before .before .before .before .before .before .before .before .before .loop in
-    let held = rw (c .before .before .piece .given .1) at (r .ensures) in
-    omega (arith, within (l .buffer) (r .last .0) (l .done) _ (c .before .before .before .before .before .before .before .before .loop-test .taken) (r .kept .0) (held .0))
+add-done c = let r = c .before .before .before .before .before .read-some in
+    let l = c .before .before .before .before .before .before .before .before .loop in
+    omega (arith, within (l .buffer) (r .last .0) (l .done) (r .result .length) (c .before .before .before .before .before .before .before .loop-test .taken) (r .kept .0) (r .ensures .0))
 
 loop-less : tie.Need-loop-less Inv-loop μ-loop
-loop-less c = let r = c .before .before .before .before .before .before .read-some in
-    let l = c .before .before .before .before .before .before .before .before .before .loop in
-    omega (arith, c .if1 .left, same-len-mid (l .done) (length (l .buffer) - l .done) (l .buffer) (r .last .0) (r .kept .0))
+loop-less c = let r = c .before .before .before .before .before .read-some in
+    let l = c .before .before .before .before .before .before .before .before .loop in
+    omega (arith, c .before .if1 .left, same-len-mid (l .done) (length (l .buffer) - l .done) (l .buffer) (r .last .0) (r .kept .0))
 
 loop-again : tie.Need-loop-again Inv-loop μ-loop
-loop-again c = let r = c .before .before .before .before .before .before .read-some in
-    let l = c .before .before .before .before .before .before .before .before .before .loop in
-    let held = rw (c .before .before .piece .given .1) at (r .ensures) in
+loop-again c = let r = c .before .before .before .before .before .read-some in
+    let l = c .before .before .before .before .before .before .before .before .loop in
     let same = same-len-mid (l .done) (length (l .buffer) - l .done) (l .buffer) (r .last .0) (r .kept .0) in
-    (same ∙ l .inv .0, omega (arith, same, within (l .buffer) (r .last .0) (l .done) _ (c .before .before .before .before .before .before .before .before .loop-test .taken) (r .kept .0) (held .0)))
+    (same ∙ l .inv .0, omega (arith, same, within (l .buffer) (r .last .0) (l .done) (r .result .length) (c .before .before .before .before .before .before .before .loop-test .taken) (r .kept .0) (r .ensures .0)))
 
-same-length-3 : tie.Need-same-length-3 Inv-loop μ-loop
-same-length-3 c = c .before .loop .inv .0
+same-length-2 : tie.Need-same-length-2 Inv-loop μ-loop
+same-length-2 c = c .before .loop .inv .0
 
-returns-3 : tie.Need-returns-3 Inv-loop μ-loop
-returns-3 c = counted (c .before .loop .buffer) _ (c .before .loop .done) refl (c .before .loop .inv .1)
+returns-2 : tie.Need-returns-2 Inv-loop μ-loop
+returns-2 c = counted (c .before .loop .buffer) _ (c .before .loop .done) refl (c .before .loop .inv .1)
 
 pub read-all-spec : {M : Type 1} → statement M
 read-all-spec =
@@ -99,14 +83,10 @@ read-all-spec =
     part-read-some-start
     part-read-some-end
     read-some-requires
-    enum-known-piece
-    enum-told
     same-length
     returns
-    same-length-2
-    returns-2
     add-done
     loop-less
     loop-again
-    same-length-3
-    returns-3)
+    same-length-2
+    returns-2)

@@ -1,14 +1,8 @@
 -- `refusal` puts the line's field, then byte 10; a room under 512 bytes is left as found.
-use Prim.Native.Nat.{_+_}
-use mathlib.Core.Path.{refl}
-use mathlib.Core.List.{[], _∷_}
 use native.Mathlib.Omega.{arith}
-use lib.ListN.{set}
 use borrow.Author.Needs.{needs}
-use Rattle.text.specs.Laid.{Wrote}
-use Rattle.text.proofs.Laid.{_then_}
 use Rattle.console.specs.Text.{refusal}
-use Rattle.console.proofs.Laws.{shown-put, not-shown}
+use Rattle.console.proofs.Laws.{ended, shown-put, not-shown}
 use Rattle.console.proofs.refusal.Statement.{statement}
 use Rattle.console.proofs.refusal.Tie as tie
 
@@ -33,8 +27,7 @@ same-length c = search needs
 returns-2 : tie.Need-returns-2
 unfolding refusal
 returns-2 c = let w = c .before .before .put-labelled in
-    let end : Wrote (w .last .0) (w .result) (10 ∷ []) (set (w .last .0) (w .result) 10) (w .result + 1) = record { stored = refl; behind = refl } in
-    shown-put (w .ensures .0 then end) (c .before .before .before .before .before .if1 .left) (omega arith)
+    shown-put (ended (w .ensures .0)) (c .before .before .before .before .before .if1 .left) (omega arith)
 
 pub refusal-spec : {M : Type 1} → statement M
 refusal-spec =

@@ -24,24 +24,28 @@ held-requires c κs = search needs
 
 slice-aggregate-put-words : tie.Need-slice-aggregate-put-words
 slice-aggregate-put-words c = let h = c .before .before .held in
-    let log = now (c .before .before .before .before .before .before .before .before .before .before .args .log) in
+    let put = c .before .before .before .before .before .before in
+    let log = now (put .before .before .before .before .args .log) in
     sym (length-take-le (h .result) log (omega (arith, h .ensures .0)))
 
 put-words-requires : tie.Need-put-words-requires
 put-words-requires c κs = let h = c .before .before .held in
-    let log = now (c .before .before .before .before .before .before .before .before .before .before .args .log) in
-    omega (arith, h .ensures .0, length-take (h .result) log, c .before .before .before .before .before .before .put-line .ensures .1)
+    let put = c .before .before .before .before .before .before in
+    let log = now (put .before .before .before .before .args .log) in
+    omega (arith, h .ensures .0, length-take (h .result) log, put .put-line .ensures .1)
 
 same-length : tie.Need-same-length
 same-length c = search needs
 
 returns-2 : tie.Need-returns-2
 unfolding report
-returns-2 c = let a = c .before .before .before .before .before .before .before .before .before .before .before .before .before .args in
-    let h = c .before .before .before .before .before .held in
-    let first = c .before .before .before .before .before .before .before .before .before .put-line in
+returns-2 c = let count = c .before .before .before .before .before in
+    let start = count .before .before .before .before .before .before in
+    let a = start .before .before .args in
+    let h = count .held in
+    let first = count .before .before .before .before .put-line in
     let words = c .before .before .put-words .ensures in
-    shown-put (same-text (ap (λ (some : List ℕ). line (a .run) ++ lines some) (h .ensures .1 (now (a .log)) (omega arith))) (first .ensures .0 then words .0)) (c .before .before .before .before .before .before .before .before .before .before .before .if1 .left)
+    shown-put (same-text (ap (λ (some : List ℕ). line (a .run) ++ lines some) (h .ensures .1 (now (a .log)) (omega arith))) (first .ensures .0 then words .0)) (start .if1 .left)
     (omega (arith, words .1, first .ensures .1, h .ensures .0, length-take (h .result) (now (a .log))))
 
 pub report-spec : {M : Type 1} → statement M

@@ -6,15 +6,15 @@ use Rattle.facetgrove.proofs.facetgrove_image_read.Tie as tie
 read-requires : tie.Need-read-requires
 read-requires c κs = search needs
 
-of-image-requires : tie.Need-of-image-requires
-of-image-requires c κs = search needs
+number-requires : tie.Need-number-requires
+number-requires c κs = search needs
 
 same-length : tie.Need-same-length
 same-length c = search needs
 
 returns : tie.Need-returns
-returns c = rw (c .of-image .ensures) (c .before .before .before .read .ensures)
+returns c = rw (c .number .ensures) (c .before .before .before .read .ensures)
 
 pub facetgrove-image-read-spec : {M : Type 1} → statement M
 facetgrove-image-read-spec =
-    tie.close (tie.spec read-requires of-image-requires same-length returns)
+    tie.close (tie.spec read-requires number-requires same-length returns)

@@ -8,16 +8,16 @@ use Rattle.facetgrove.proofs.facetgrove_image_write.Tie as tie
 write-requires : tie.Need-write-requires
 write-requires c κs = search needs
 
-of-image-requires : tie.Need-of-image-requires
-of-image-requires c κs = search needs
+number-requires : tie.Need-number-requires
+number-requires c κs = search needs
 
 same-length : tie.Need-same-length
 same-length c = search needs
 
 returns : tie.Need-returns
 unfolding writeCalled
-returns c = rw (c .of-image .ensures) (ap ofWriting (c .before .before .before .before .write .ensures))
+returns c = rw (c .number .ensures) (ap ofWriting (c .before .before .before .before .write .ensures))
 
 pub facetgrove-image-write-spec : {M : Type 1} → statement M
 facetgrove-image-write-spec =
-    tie.close (tie.spec write-requires of-image-requires same-length returns)
+    tie.close (tie.spec write-requires number-requires same-length returns)

@@ -15,7 +15,7 @@ use Rattle.image.proofs.examine.Statement.{statement}
 use Rattle.image.proofs.examine.Tie as tie
 
 record Examining (image : List ℕ) (last at : ℕ) : Type 0 where
-  begun : 4 ≤ at
+  past : 4 ≤ at
   inside : at ≤ length image
   whole : (length image - at) % 4 ≡ 0
   held : records (drop (at - 4) image) ≡ numbered last ∷ records (drop at image)
@@ -49,7 +49,7 @@ loop-holds : tie.Need-loop-holds Inv-loop μ-loop
 unfolding examined
 loop-holds c =
     record {
-      begun = omega arith;
+      past = omega arith;
       inside = omega arith;
       whole = omega arith;
       held = c .number-at .ensures;
@@ -74,7 +74,7 @@ loop-again c =
     let next = c .before .before .number-at2 in
     let back : here .at + 4 - 4 ≡ here .at = omega arith in
     record {
-      begun = omega arith;
+      past = omega arith;
       inside = omega arith;
       whole = omega arith;
       held = rw back (next .ensures);

@@ -8,14 +8,14 @@ use lib.Dec.{eqb}
 use borrow.Author.Needs.{needs}
 use Rattle.image.specs.Answers.{number}
 use Rattle.image.specs.declared.Answer.{Answer}
-use Rattle.image.specs.declared.Answer.the-variants.{Done, MemorySize, ImageLength, AddressTooHigh, AddressNotAbove, ValueZero, RoomTooSmall}
+use Rattle.image.specs.declared.Answer.the-variants.{Done, WrongSize, ImageLength, AddressTooHigh, AddressNotAbove, ValueZero, RoomTooSmall}
 use Rattle.image.proofs.is_done.Statement.{statement}
 use Rattle.image.proofs.Answer as Cases
 use Rattle.image.proofs.is_done.Tie as tie
 
 refused : (a : Answer) → OneOf (1 ∷ 2 ∷ 3 ∷ 4 ∷ 5 ∷ 6 ∷ []) (tagOf Cases.the-type a) → false ≡ eqb (number a) 0
 refused Done other = absurd (miss (1 ∷ 2 ∷ 3 ∷ 4 ∷ 5 ∷ 6 ∷ []) 0 tt other)
-refused MemorySize other = refl
+refused WrongSize other = refl
 refused ImageLength other = refl
 refused AddressTooHigh other = refl
 refused AddressNotAbove other = refl

@@ -1,4 +1,4 @@
--- `lay`: laying the records from a place on over memory gives the memory of the whole image.
+-- `lay`: laying the records from `at` on over memory gives the memory of the whole image.
 use Prim.Native.Nat.{ℕ, _+_, _-_, _%_, _≤_, _<_}
 use mathlib.Core.List.{List, _∷_}
 use mathlib.Core.Path.{_≡_, sym, _∙_, ap}
@@ -26,9 +26,12 @@ Inv-loop image memory₀ at₀ memory at = Laying image memory at
 abbrev μ-loop : tie.MeasureT-loop
 μ-loop image memory₀ at₀ memory at = length image - at
 
+abbrev lent : tie.After-struct-known Inv-loop μ-loop → List ℕ
+lent c = let turn = c .before .before .before in turn .before .before .before .before .before .before .before .args .image .now
+
 -- The record that is laid next, with those after it, has no fault.
 next-faultless : (c : tie.After-struct-known Inv-loop μ-loop)
-    → firstFault (c .before .before .before .loop .inv .least) (c .before .record-at .result ∷ records (drop (c .before .before .before .loop .at + 4) (c .before .before .before .before .before .before .before .before .before .before .args .image .now))) ≡ 0
+    → firstFault (c .before .before .before .loop .inv .least) (c .before .record-at .result ∷ records (drop (c .before .before .before .loop .at + 4) (lent c))) ≡ 0
 next-faultless c = ap (firstFault (c .before .before .before .loop .inv .least)) (sym (c .before .record-at .ensures)) ∙ c .before .before .before .loop .inv .faultless
 
 unfaulted : (c : tie.After-struct-known Inv-loop μ-loop) → fault (c .before .before .before .loop .inv .least) (c .before .record-at .result) ≡ 0
@@ -57,8 +60,8 @@ loop-holds c =
 record-at-requires : tie.Need-record-at-requires Inv-loop μ-loop
 record-at-requires c κs = omega arith
 
-cast-place : tie.Need-cast-place Inv-loop μ-loop
-cast-place c = omega (arith, low c)
+cast-index : tie.Need-cast-index Inv-loop μ-loop
+cast-index c = omega (arith, low c)
 
 mul-memory : tie.Need-mul-memory Inv-loop μ-loop
 mul-memory c = omega (arith, low c)
@@ -101,7 +104,7 @@ lay-spec =
     clear-requires
     loop-holds
     record-at-requires
-    cast-place
+    cast-index
     mul-memory
     slice-write-memory
     add-at

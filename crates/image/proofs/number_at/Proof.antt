@@ -1,4 +1,4 @@
--- `number_at` joins the address and the value of the record at the place.
+-- `number_at` joins the address and the value of the record at `at`.
 use native.Mathlib.Omega.{arith}
 use borrow.Author.Needs.{needs}
 use Rattle.image.proofs.Numbers.{number-record}

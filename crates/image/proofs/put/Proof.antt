@@ -1,17 +1,17 @@
 -- `put` stores the four bytes one after the other, or none.
 use native.Mathlib.Numerals.{towards-suc}
-use native.Mathlib.Nat.{add-zero}
 use native.Mathlib.Omega.{arith}
 use lib.ListN.{length-set}
 use borrow.Author.Tests.{eq-eqb, ne-eqb}
 use borrow.Author.Needs.{needs}
+use Rattle.text.proofs.Laid.{nothing}
 use Rattle.image.specs.Records.{bytes}
 use Rattle.image.proofs.put.Statement.{statement}
 use Rattle.image.proofs.put.Tie as tie
 
 returns : tie.Need-returns
 unfolding bytes
-returns c = rw (eq-eqb (c .before .before .args .value) 0 (omega arith), add-zero)
+returns c = rw (eq-eqb (c .before .before .args .value) 0 (omega arith)) nothing
 
 to-bytes-requires : tie.Need-to-bytes-requires
 to-bytes-requires c κs = search needs
@@ -48,7 +48,8 @@ same-length c = search needs
 
 returns-2 : tie.Need-returns-2
 unfolding bytes
-returns-2 c = simp (ne-eqb _ _ (c .before .before .if1 .left), c .before .to-bytes .ensures, c .to-bytes2 .ensures, towards-suc)
+returns-2 c = let some = ne-eqb _ _ (c .before .before .if1 .left) in
+    record { stored = simp (some, c .before .to-bytes .ensures, c .to-bytes2 .ensures, towards-suc); behind = rw some }
 
 pub put-spec : {M : Type 1} → statement M
 put-spec =

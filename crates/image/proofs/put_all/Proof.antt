@@ -1,13 +1,13 @@
--- `put_all`: putting the records of the words from an address on, where the last record ended, gives the whole image put.
+-- `put_all`: the records of the words from an address on, laid where the last one ended, give the whole image laid.
 use Prim.Native.Nat.{ℕ, _-_, _*_, _≤_}
 use mathlib.Core.List.{List}
-use mathlib.Core.Path.{_≡_, refl, sym, _∙_, ap}
+use mathlib.Core.Path.{_≡_, refl, _∙_}
 use native.Mathlib.Omega.{arith}
-use native.Mathlib.Nat.{add-zero}
 use lib.ListN.{length, getD}
-use Rattle.image.specs.Image.{imageOf, Put, putAt}
+use Rattle.text.proofs.Laid.{Still, goes-on, all-laid}
+use Rattle.image.specs.Image.{imageOf}
 use Rattle.image.specs.Records.{recordOf}
-use Rattle.image.proofs.Putting.{after, after-last, put-word}
+use Rattle.image.proofs.Putting.{after, after-first, after-last}
 use Rattle.image.proofs.Records.{bytes-length, one-record}
 use Rattle.image.proofs.put_all.Statement.{statement}
 use Rattle.image.proofs.put_all.Tie as tie
@@ -16,7 +16,7 @@ record Putting (memory room₀ room : List ℕ) (at address : ℕ) : Type 0 wher
   low : address ≤ 4092
   fits : at ≤ 4 * address
   kept : length room ≡ length room₀
-  rest : _≡_ {A = Put} (putAt at (after memory address) room) (putAt 0 (imageOf memory) room₀)
+  still : Still room₀ 0 (imageOf memory) room at (after memory address)
 
 abbrev Inv-loop : tie.InvT-loop
 Inv-loop memory room₀ at₀ address₀ room at address = Putting memory room₀ room at address
@@ -26,7 +26,7 @@ abbrev μ-loop : tie.MeasureT-loop
 
 loop-holds : tie.Need-loop-holds Inv-loop μ-loop
 unfolding imageOf
-loop-holds c = record { low = omega arith; fits = omega arith; kept = refl; rest = refl }
+loop-holds c = record { low = omega arith; fits = omega arith; kept = refl; still = record { stored = refl; behind = refl } }
 
 cast-i : tie.Need-cast-i Inv-loop μ-loop
 cast-i c = omega arith
@@ -48,24 +48,24 @@ loop-less c = omega arith
 
 loop-again : tie.Need-loop-again Inv-loop μ-loop
 loop-again c =
-    let memory = c .before .before .before .before .before .before .before .before .before .args .memory .now in
-    let word = getD memory (c .before .before .before .before .before .before .loop .address) 0 in
-    let here = c .before .before .before .before .before .before .loop in
+    let turn = c .before .before .before .before .before in
+    let here = turn .before .loop in
+    let start = turn .before .before .before .before in
+    let memory = start .args .memory .now in
+    let word = getD memory (here .address) 0 in
     let put = c .before .before .put .ensures in
     record {
       low = omega arith;
-      fits = omega (arith, ap (λ (p : Put). p .next) put, bytes-length (recordOf (here .address) word), one-record (here .address) word);
+      fits = omega (arith, put .behind, bytes-length (recordOf (here .address) word), one-record (here .address) word);
       kept = c .before .before .put .kept .0 ∙ here .inv .kept;
-      rest =
-          put-word memory (here .room) (here .at) (here .address) (c .before .before .before .before .before .loop-test .taken) (c .before .before .before .before .before .before .before .before .before .pre .0) put
-          ∙ here .inv .rest;
+      still = goes-on (rw (after-first memory (here .address) (turn .loop-test .taken) (start .pre .0)) at (here .inv .still)) put;
     }
 
 same-length : tie.Need-same-length Inv-loop μ-loop
 same-length c = c .before .loop .inv .kept
 
 returns : tie.Need-returns Inv-loop μ-loop
-returns c = sym (c .before .loop .inv .rest) ∙ rw (after-last _ _ (c .loop-test .left), add-zero)
+returns c = all-laid (rw (after-last _ _ (c .loop-test .left)) at (c .before .loop .inv .still))
 
 pub put-all-spec : {M : Type 1} → statement M
 put-all-spec =

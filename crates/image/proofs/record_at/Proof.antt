@@ -1,4 +1,4 @@
--- `record_at` joins the four bytes at the place, two by two.
+-- `record_at` joins the four bytes from `at` on, two by two.
 use borrow.Author.Needs.{needs}
 use Rattle.image.proofs.Records.{record-at}
 use Rattle.image.proofs.record_at.Statement.{statement}

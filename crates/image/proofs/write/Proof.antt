@@ -2,7 +2,7 @@
 use borrow.Author.Tests.{eq-eqb, ne-eqb, le-ltb, lt-ltb}
 use borrow.Author.Needs.{needs}
 use Rattle.image.specs.Image.{writing}
-use Rattle.image.proofs.Putting.{filled-put}
+use Rattle.image.proofs.Putting.{filled-room}
 use Rattle.image.proofs.write.Statement.{statement}
 use Rattle.image.proofs.write.Tie as tie
 
@@ -24,7 +24,7 @@ returns-3 : tie.Need-returns-3
 unfolding writing
 returns-3 c =
     let enough = c .before .before .before .before .if2 .left in
-    rw (eq-eqb _ _ (c .before .before .before .before .before .if1 .left), le-ltb _ _ enough) (filled-put _ _ enough (c .before .before .put-all .ensures))
+    rw (eq-eqb _ _ (c .before .before .before .before .before .if1 .left), le-ltb _ _ enough) (filled-room _ enough (c .before .before .put-all .ensures))
 
 pub write-spec : {M : Type 1} → statement M
 write-spec = tie.close (tie.spec returns returns-2 put-all-requires same-length returns-3)

@@ -1,12 +1,38 @@
--- `tell` prints by the answer; what `console` shows stands at the room's front.
-use mathlib.Core.Path.{refl, sym}
+-- `tell`: a listing, a bad word, the enum's case 3, with its line, or the number alone; what `console` shows stands at the room's front.
+use Prim.Native.Nat.{ℕ}
+use mathlib.Core.List.{List, [], _∷_}
+use mathlib.Core.Path.{_≡_, refl, sym, _∙_}
 use lib.Seq.{length-take-le}
 use denote.Ref.{now}
+use denote.Enum.Declared.{tagOf}
+use types.Run.{OneOf, miss}
 use borrow.Author.Needs.{needs}
+use Rattle.console.specs.Text.{refusal, refusalAt}
 use Rattle.console.proofs.Laws.{front}
+use Rattle.lister.specs.Answers.{number, named, seen}
+use Rattle.lister.specs.declared.Answer.{Answer}
+use Rattle.lister.specs.declared.Answer.the-variants.{Done, WrongSize, SmallRoom, BadWord, PastRoom}
+use Rattle.lister.proofs.Answer as Cases
 use Rattle.list.specs.Listing.{told}
 use Rattle.list.proofs.tell.Statement.{statement}
 use Rattle.list.proofs.tell.Tie as tie
+
+module _ (length : ℕ) (room : List ℕ) where
+  with-line : (a : Answer) → OneOf (3 ∷ []) (tagOf Cases.the-type a) → refusalAt (number a) (named a) ≡ told (seen (record { answer = a; length = length }) room)
+  unfolding told
+  with-line Done other = absurd (miss (3 ∷ []) 0 tt other)
+  with-line WrongSize other = absurd (miss (3 ∷ []) 1 tt other)
+  with-line SmallRoom other = absurd (miss (3 ∷ []) 2 tt other)
+  with-line (BadWord line) other = refl
+  with-line PastRoom other = absurd (miss (3 ∷ []) 4 tt other)
+
+  alone : (a : Answer) → OneOf (1 ∷ 2 ∷ 4 ∷ []) (tagOf Cases.the-type a) → refusal (number a) ≡ told (seen (record { answer = a; length = length }) room)
+  unfolding told
+  alone Done other = absurd (miss (1 ∷ 2 ∷ 4 ∷ []) 0 tt other)
+  alone WrongSize other = refl
+  alone SmallRoom other = refl
+  alone (BadWord line) other = absurd (miss (1 ∷ 2 ∷ 4 ∷ []) 3 tt other)
+  alone PastRoom other = refl
 
 enum-told : tie.Need-enum-told
 enum-told c = search needs
@@ -14,26 +40,20 @@ enum-told c = search needs
 enum-told-2 : tie.Need-enum-told-2
 enum-told-2 c = search needs
 
+number-requires : tie.Need-number-requires
+number-requires c κs = search needs
+
+line-requires : tie.Need-line-requires
+line-requires c κs = search needs
+
+refusal-at-requires : tie.Need-refusal-at-requires
+refusal-at-requires c κs = search needs
+
+number-requires-2 : tie.Need-number-requires-2
+number-requires-2 c κs = search needs
+
 refusal-requires : tie.Need-refusal-requires
 refusal-requires c κs = search needs
-
-enum-told-3 : tie.Need-enum-told-3
-enum-told-3 c = search needs
-
-refusal-requires-2 : tie.Need-refusal-requires-2
-refusal-requires-2 c κs = search needs
-
-enum-known-answer : tie.Need-enum-known-answer
-enum-known-answer c = search needs
-
-bad-word-requires : tie.Need-bad-word-requires
-bad-word-requires c κs = search needs
-
-enum-told-4 : tie.Need-enum-told-4
-enum-told-4 c = search needs
-
-refusal-requires-3 : tie.Need-refusal-requires-3
-refusal-requires-3 c κs = search needs
 
 returns : tie.Need-returns
 unfolding told
@@ -44,33 +64,19 @@ same-length : tie.Need-same-length
 same-length c = search needs
 
 returns-2 : tie.Need-returns-2
-unfolding told
-returns-2 c = let shown = front _ _ _ _ (c .before .before .before .before .before .before .before .pre .0) (c .before .before .refusal .ensures) in
-    (rw (c .before .before .before .before .enum-told2 .given .1) (shown .stands), shown .counted)
+returns-2 c = let arm = c .before .before .before .before .before in
+    let s = arm .before .before .before .before in
+    let shown = front _ _ _ _ (s .pre .0) (c .before .before .refusal-at .ensures) in
+    ((rw (arm .number .ensures, c .before .before .before .before .line .ensures) at (shown .stands)) ∙ with-line _ _ (s .args .answer) (arm .before .before .match .keys2), shown .counted)
 
 same-length-2 : tie.Need-same-length-2
 same-length-2 c = search needs
 
 returns-3 : tie.Need-returns-3
-unfolding told
-returns-3 c = let shown = front _ _ _ _ (c .before .before .before .before .before .before .before .pre .0) (c .before .before .refusal2 .ensures) in
-    (rw (c .before .before .before .before .enum-told3 .given .1) (shown .stands), shown .counted)
-
-same-length-3 : tie.Need-same-length-3
-same-length-3 c = search needs
-
-returns-4 : tie.Need-returns-4
-unfolding told
-returns-4 c = let shown = front _ _ _ _ (c .before .before .before .before .before .before .before .before .pre .0) (c .before .before .bad-word .ensures) in
-    (rw (c .before .before .before .before .before .answer .given .1) (shown .stands), shown .counted)
-
-same-length-4 : tie.Need-same-length-4
-same-length-4 c = search needs
-
-returns-5 : tie.Need-returns-5
-unfolding told
-returns-5 c = let shown = front _ _ _ _ (c .before .before .before .before .before .before .before .pre .0) (c .before .before .refusal3 .ensures) in
-    (rw (c .before .before .before .before .enum-told4 .given .1) (shown .stands), shown .counted)
+returns-3 c = let arm = c .before .before .before .before in
+    let s = arm .before .before .before in
+    let shown = front _ _ _ _ (s .pre .0) (c .before .before .refusal .ensures) in
+    ((rw (arm .number2 .ensures) at (shown .stands)) ∙ alone _ _ (s .args .answer) (arm .before .match .keys3), shown .counted)
 
 pub tell-spec : {M : Type 1} → statement M
 tell-spec =
@@ -78,19 +84,13 @@ tell-spec =
     (tie.spec
     enum-told
     enum-told-2
+    number-requires
+    line-requires
+    refusal-at-requires
+    number-requires-2
     refusal-requires
-    enum-told-3
-    refusal-requires-2
-    enum-known-answer
-    bad-word-requires
-    enum-told-4
-    refusal-requires-3
     returns
     same-length
     returns-2
     same-length-2
-    returns-3
-    same-length-3
-    returns-4
-    same-length-4
-    returns-5)
+    returns-3)

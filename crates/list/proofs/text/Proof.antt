@@ -13,6 +13,9 @@ use Rattle.list.specs.Listing.{told, printed}
 use Rattle.list.proofs.text.Statement.{statement}
 use Rattle.list.proofs.text.Tie as tie
 
+number-requires : tie.Need-number-requires
+number-requires c κs = search needs
+
 refusal-requires : tie.Need-refusal-requires
 refusal-requires c κs = search needs
 
@@ -21,9 +24,9 @@ same-length c = search needs
 
 returns : tie.Need-returns
 unfolding printed
-returns c = let s = c .before .before .before .before .before .before .before in
+returns c = let s = c .before .before .before .before .before .before .before .before in
     let shown = front _ _ _ _ (omega (arith, s .pre)) (c .before .before .refusal .ensures) in
-    (rw (ne-eqb _ _ (c .before .before .before .before .if1 .taken)) (shown .stands), shown .counted)
+    (rw (ne-eqb _ _ (c .before .before .before .before .before .if1 .taken), ← c .before .before .before .before .number .ensures) (shown .stands), shown .counted)
 
 slice-aggregate-fill : tie.Need-slice-aggregate-fill
 slice-aggregate-fill c = search needs
@@ -39,23 +42,29 @@ list-requires c κs = search needs
 
 tell-requires : tie.Need-tell-requires
 tell-requires c κs = let r = c .before .before .before .list in
-    (omega (arith, r .kept .1 .0), rw (r .ensures) at (listed-within (c .before .before .before .before .before .before .before .fill .last .0) (now (c .before .before .before .before .before .before .before .before .before .before .before .before .args .room))))
+    let filled = c .before .before .before .before .before .before .before in
+    let room = now (filled .before .before .before .before .before .args .room) in
+    (omega (arith, r .kept .1 .0, filled .before .before .before .before .before .pre), rw (r .ensures) at (listed-within (filled .fill .last .0) room))
 
 same-length-2 : tie.Need-same-length-2
 same-length-2 c = search needs
 
 returns-2 : tie.Need-returns-2
 unfolding printed
-returns-2 c = let s = c .before .before .before .before .before .before .before .before .before .before .before .before .before .before .before in (
-  rw (eq-eqb _ _ (c .before .before .before .before .before .before .before .before .before .before .before .before .if1 .left))
-      (c .before .before .tell .ensures .0 ∙ ap told (sym (c .before .before .before .before .before .before .list .ensures)) ∙ ap (λ (store : List ℕ). told (listed store (now (s .args .room)))) (c .before .before .before .before .before .before .before .before .before .before .fill .ensures)),
-  c .before .before .tell .ensures .1,
-)
+returns-2 c = let call = c .before .before .before .before .before .before in
+    let filled = call .before .before .before .before in
+    let room = now (filled .before .before .before .before .before .args .room) in
+    let told-so = c .before .before .tell .ensures in (
+      rw (eq-eqb _ _ (filled .before .before .if1 .left))
+          (told-so .0 ∙ ap told (sym (call .list .ensures)) ∙ ap (λ (store : List ℕ). told (listed store room)) (filled .fill .ensures)),
+      told-so .1,
+    )
 
 pub text-spec : {M : Type 1} → statement M
 text-spec =
     tie.close
     (tie.spec
+    number-requires
     refusal-requires
     same-length
     returns

@@ -29,8 +29,10 @@ same-length-2 c = search needs
 
 returns : tie.Need-returns
 unfolding ran
-returns c = let shown = front _ _ _ _ (c .before .before .before .before .before .before .before .before .before .before .before .before .before .before .before .before .before .before .pre) (c .before .before .report .ensures) in
-    ((rw (c .before .before .before .before .before .number .ensures) at (shown .stands)) ∙ sym (ap reported (c .before .before .before .before .before .before .before .before .before .before .before .before .run .ensures)), shown .counted)
+returns c = let told = c .before .before .before .before .before in
+    let ran = told .before .before .before .before .before .before .before in
+    let shown = front _ _ _ _ (ran .before .before .before .before .before .before .pre) (c .before .before .report .ensures) in
+    ((rw (told .number .ensures) at (shown .stands)) ∙ sym (ap reported (ran .run .ensures)), shown .counted)
 
 pub run-memory-spec : {M : Type 1} → statement M
 run-memory-spec =

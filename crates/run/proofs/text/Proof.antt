@@ -26,8 +26,8 @@ slice-aggregate-read c = search needs
 read-requires : tie.Need-read-requires
 read-requires c κs = search needs
 
-of-image-requires : tie.Need-of-image-requires
-of-image-requires c κs = search needs
+number-requires : tie.Need-number-requires
+number-requires c κs = search needs
 
 refusal-requires-2 : tie.Need-refusal-requires-2
 refusal-requires-2 c κs = search needs
@@ -36,9 +36,11 @@ same-length-2 : tie.Need-same-length-2
 same-length-2 c = search needs
 
 returns-2 : tie.Need-returns-2
-returns-2 c = let shown = front _ _ _ _ (c .before .before .before .before .before .before .before .before .before .before .before .before .pre) (c .before .before .refusal2 .ensures) in
-    let n = c .before .before .before .before .before .of-image .ensures in (
-      shown .stands ∙ ap refusal n ∙ sym (refused-text _ _ _ (c .before .before .before .before .before .before .before .before .before .if1 .left) (c .before .before .before .before .before .before .before .read .ensures) (λ zero. c .before .before .before .before .if2 .taken (n ∙ zero))),
+returns-2 c = let numbered = c .before .before .before .before .before in
+    let start = numbered .before .before .before .before in
+    let shown = front _ _ _ _ (start .before .before .before .pre) (c .before .before .refusal2 .ensures) in
+    let n = numbered .number .ensures in (
+      shown .stands ∙ ap refusal n ∙ sym (refused-text _ _ _ (start .if1 .left) (numbered .before .before .read .ensures) (λ zero. c .before .before .before .before .if2 .taken (n ∙ zero))),
       shown .counted,
     )
 
@@ -52,10 +54,12 @@ same-length-3 : tie.Need-same-length-3
 same-length-3 c = search needs
 
 returns-3 : tie.Need-returns-3
-returns-3 c = let r = c .before .before .before .run-memory .ensures in (
-  r .0 ∙ sym (ran-text _ _ _ (c .before .before .before .before .before .before .before .before .before .before .before .if1 .left) (c .before .before .before .before .before .before .before .before .before .read .ensures) (sym (c .before .before .before .before .before .before .before .of-image .ensures) ∙ c .before .before .before .before .before .before .if2 .left)),
-  r .1,
-)
+returns-3 c = let r = c .before .before .before .run-memory .ensures in
+    let numbered = c .before .before .before .before .before .before .before in
+    let read = numbered .before .before in (
+      r .0 ∙ sym (ran-text _ _ _ (read .before .before .if1 .left) (read .read .ensures) (sym (numbered .number .ensures) ∙ c .before .before .before .before .before .before .if2 .left)),
+      r .1,
+    )
 
 pub text-spec : {M : Type 1} → statement M
 text-spec =
@@ -66,7 +70,7 @@ text-spec =
     returns
     slice-aggregate-read
     read-requires
-    of-image-requires
+    number-requires
     refusal-requires-2
     same-length-2
     returns-2

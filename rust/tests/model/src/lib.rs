@@ -49,8 +49,8 @@ pub trait Functions {
     fn engine_run(&self, machine: &mut Machine, cycles: u32) -> Told;
     fn press(&self, machine: &mut Machine) -> Told;
     fn interpreter_run(&self, cpu: &mut Cpu, instructions: u32) -> Told;
-    fn assemble(&self, text: &[u8], store: &mut [u32]) -> Told;
-    fn list(&self, store: &[u32], room: &mut [u8]) -> Told;
+    fn micro_assemble(&self, text: &[u8], store: &mut [u32]) -> Told;
+    fn micro_list(&self, store: &[u32], room: &mut [u8]) -> Told;
     fn image_read(&self, image: &[u8], memory: &mut [u16]) -> Told;
     fn image_write(&self, memory: &[u16], room: &mut [u8]) -> Told;
 }
@@ -71,11 +71,11 @@ impl Functions for Model {
         cpu.run(instructions)
     }
 
-    fn assemble(&self, text: &[u8], store: &mut [u32]) -> Told {
+    fn micro_assemble(&self, text: &[u8], store: &mut [u32]) -> Told {
         Told::answer(micro_text::assemble(text, store))
     }
 
-    fn list(&self, store: &[u32], room: &mut [u8]) -> Told {
+    fn micro_list(&self, store: &[u32], room: &mut [u8]) -> Told {
         micro_text::list(store, room)
     }
 

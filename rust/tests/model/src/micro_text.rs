@@ -103,8 +103,8 @@ fn tokens(line: &[u8]) -> Option<Vec<Token<'_>>> {
 
 #[derive(Clone, Copy)]
 enum Part {
-    /// The place is none for `alu`.
-    Operation { place: Option<u32>, computation: Computation },
+    /// `into` is none for `alu`.
+    Operation { into: Option<u32>, computation: Computation },
     Read,
     Write,
     Jump { test: Test, target: u32 },
@@ -146,8 +146,8 @@ fn part(tokens: &[Token]) -> Option<Part> {
         [Letters(b"if"), Letters(b"z"), Letters(b"then"), Letters(b"goto"), k] => {
             Part::Jump { test: Test::Zero, target: target(k)? }
         }
-        [Letters(b"alu"), Becomes, right @ ..] => Part::Operation { place: None, computation: right_side(right)? },
-        [r, Becomes, right @ ..] => Part::Operation { place: Some(register(r)?), computation: right_side(right)? },
+        [Letters(b"alu"), Becomes, right @ ..] => Part::Operation { into: None, computation: right_side(right)? },
+        [r, Becomes, right @ ..] => Part::Operation { into: Some(register(r)?), computation: right_side(right)? },
         _ => return None,
     })
 }
@@ -198,7 +198,7 @@ fn go_together(parts: &[Part]) -> bool {
     let writes = count(|part| matches!(part, Part::Write));
     let jumps = count(|part| matches!(part, Part::Jump { .. }));
     let tests = count(|part| matches!(part, Part::Jump { test: Test::Negative | Test::Zero, .. }));
-    let alus = count(|part| matches!(part, Part::Operation { place: None, .. }));
+    let alus = count(|part| matches!(part, Part::Operation { into: None, .. }));
     operations <= 1
         && reads + writes <= 1
         && jumps <= 1
@@ -210,10 +210,10 @@ fn fields(parts: &[Part]) -> Microword {
     let mut fields = Microword::default();
     for part in parts {
         match *part {
-            Part::Operation { place, computation: Computation { f, a, b } } => {
+            Part::Operation { into, computation: Computation { f, a, b } } => {
                 (fields.f, fields.a, fields.b) = (f, a, b);
-                fields.hs = place.is_some();
-                fields.s = place.unwrap_or(0);
+                fields.hs = into.is_some();
+                fields.s = into.unwrap_or(0);
             }
             Part::Read => fields.rd = true,
             Part::Write => fields.wr = true,

@@ -1,10 +1,10 @@
--- `word_at` joins the four bytes at the place, two by two.
+-- `word_of_bytes` joins the four bytes from `at` on, two by two.
 use denote.Ref.{now}
 use native.Mathlib.Omega.{arith}
 use borrow.Author.Needs.{needs}
 use Rattle.list.proofs.Laws.{word-next}
-use Rattle.list.proofs.word_at.Statement.{statement}
-use Rattle.list.proofs.word_at.Tie as tie
+use Rattle.list.proofs.word_of_bytes.Statement.{statement}
+use Rattle.list.proofs.word_of_bytes.Tie as tie
 
 shared-slice-read-from-bytes : tie.Need-shared-slice-read-from-bytes
 shared-slice-read-from-bytes c = search needs
@@ -47,8 +47,8 @@ returns c = let s = c .before .before .before .before .before .before .before .b
     word-next (now (s .args .input)) (s .args .at) (c .before .before .before .before .from-bytes .result) (c .before .from-bytes2 .result) (c .place .result) (s .pre)
     (c .before .before .before .before .from-bytes .ensures) (c .before .from-bytes2 .ensures) (omega (arith, c .place .ensures, c .before .before .before .before .from-bytes .ok, c .before .from-bytes2 .ok))
 
-pub word-at-spec : {M : Type 1} → statement M
-word-at-spec =
+pub word-of-bytes-spec : {M : Type 1} → statement M
+word-of-bytes-spec =
     tie.close
     (tie.spec
     shared-slice-read-from-bytes
