@@ -23,8 +23,10 @@ same-length : tie.Need-same-length
 same-length c = search needs
 
 returns : tie.Need-returns
-returns c = let d = c .before .before .before .before .before .decimal in
-    let s = c .before .before .before .before .before .before .before .before in
+returns c =
+    let back = c .before .before .before .before .before .before .before in
+    let d = c .before .before .before .before .before .decimal in
+    let s = back .before in
     let few = short (d .result) (s .args .n) (s .fits .n .fits) (d .ensures .1 .0) in
     let same = d .ensures .1 .1 ∙ fewest (d .result) (s .args .n) (s .fits .n .fits) (d .ensures .1 .0) in
     let w = wrote (omega (arith, d .ensures .0 .1, few)) (c .before .before .put .ensures) in

@@ -51,18 +51,24 @@ returns c = let r = c .before .before .before .before .read-some in
     counted (l .buffer) _ (l .done) (same-len-mid (l .done) (length (l .buffer) - l .done) (l .buffer) (r .last .0) (r .kept .0)) (l .inv .1)
 
 add-done : tie.Need-add-done Inv-loop μ-loop
-add-done c = let r = c .before .before .before .before .before .read-some in
-    let l = c .before .before .before .before .before .before .before .before .loop in
+add-done c =
+    let back = c .before .before .before .before .before .before .before in
+    let r = c .before .before .before .before .before .read-some in
+    let l = back .before .loop in
     omega (arith, within (l .buffer) (r .last .0) (l .done) (r .result .length) (c .before .before .before .before .before .before .before .loop-test .taken) (r .kept .0) (r .ensures .0))
 
 loop-less : tie.Need-loop-less Inv-loop μ-loop
-loop-less c = let r = c .before .before .before .before .before .read-some in
-    let l = c .before .before .before .before .before .before .before .before .loop in
+loop-less c =
+    let back = c .before .before .before .before .before .before .before in
+    let r = c .before .before .before .before .before .read-some in
+    let l = back .before .loop in
     omega (arith, c .before .if1 .left, same-len-mid (l .done) (length (l .buffer) - l .done) (l .buffer) (r .last .0) (r .kept .0))
 
 loop-again : tie.Need-loop-again Inv-loop μ-loop
-loop-again c = let r = c .before .before .before .before .before .read-some in
-    let l = c .before .before .before .before .before .before .before .before .loop in
+loop-again c =
+    let back = c .before .before .before .before .before .before .before in
+    let r = c .before .before .before .before .before .read-some in
+    let l = back .before .loop in
     let same = same-len-mid (l .done) (length (l .buffer) - l .done) (l .buffer) (r .last .0) (r .kept .0) in
     (same ∙ l .inv .0, omega (arith, same, within (l .buffer) (r .last .0) (l .done) (r .result .length) (c .before .before .before .before .before .before .before .loop-test .taken) (r .kept .0) (r .ensures .0)))
 

@@ -98,7 +98,8 @@ is-done-requires c κs = search needs
 
 returns-3 : tie.Need-returns-3 Inv-loop μ-loop
 returns-3 c =
-    let here = c .before .before .before .before .before .before .before .before .loop in
+    let back = c .before .before .before .before .before .before .before in
+    let here = back .before .loop in
     let next = c .before .before .before .before .before .before .number-at2 in
     let fine = ap (fault 0) (sym (same (c .before))) ∙ sym (c .before .before .judge .ensures) ∙ eqb-true _ 0 (sym (c .before .is-done .ensures) ∙ c .if4 .taken) in
     sym (not-followed (numbered (here .last)) (numbered (next .result)) _ (sym (c .before .before .before .before .before .follows .ensures) ∙ c .before .before .before .before .if3 .left) fine)
@@ -107,7 +108,8 @@ returns-3 c =
 
 returns-4 : tie.Need-returns-4 Inv-loop μ-loop
 returns-4 c =
-    let here = c .before .before .before .before .before .before .before .before .loop in
+    let back = c .before .before .before .before .before .before .before in
+    let here = back .before .loop in
     sym (stopped 0 (numbered (here .last)) _ (c .before .before .judge .ensures ∙ ap (fault 0) (same (c .before))) (sym (c .before .is-done .ensures) ∙ c .if4 .left))
     ∙ here .inv .rest
 

@@ -89,7 +89,9 @@ loop-again c =
     }
 
 same-length : tie.Need-same-length Inv-loop μ-loop
-same-length c = c .before .loop .inv .words ∙ sym (c .before .before .before .before .before .before .before .before .pre .1)
+same-length c =
+    let back = c .before .before .before .before .before .before .before in
+    c .before .loop .inv .words ∙ sym (back .before .pre .1)
 
 returns : tie.Need-returns Inv-loop μ-loop
 unfolding laid records

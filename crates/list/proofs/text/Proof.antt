@@ -24,7 +24,9 @@ same-length c = search needs
 
 returns : tie.Need-returns
 unfolding printed
-returns c = let s = c .before .before .before .before .before .before .before .before in
+returns c =
+    let back = c .before .before .before .before .before .before .before in
+    let s = back .before in
     let shown = front _ _ _ _ (omega (arith, s .pre)) (c .before .before .refusal .ensures) in
     (rw (ne-eqb _ _ (c .before .before .before .before .before .if1 .taken), ← c .before .before .before .before .number .ensures) (shown .stands), shown .counted)
 

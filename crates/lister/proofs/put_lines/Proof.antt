@@ -71,7 +71,8 @@ loop-less c = omega arith
 
 loop-again : tie.Need-loop-again Inv-loop μ-loop
 loop-again c =
-    let read = c .before .before .before .before .before .before .before .before in
+    let back = c .before .before .before .before .before .before .before in
+    let read = back .before in
     let l = read .before .before in
     let s = l .before .before .before in
     let w = read .word-at in

@@ -81,7 +81,8 @@ add-k c = omega arith
 
 loop-less : tie.Need-loop-less Inv-loop μ-loop
 loop-less c =
-    let b = c .before .before .before .before .before .before .before .before in
+    let back = c .before .before .before .before .before .before .before in
+    let b = back .before in
     let l = b .loop in
     let r = c .before .before .before .before .read .given in
     let t = now (b .before .before .before .before .before .before .before .args .text) in
@@ -91,7 +92,8 @@ loop-less c =
 
 loop-again : tie.Need-loop-again Inv-loop μ-loop
 loop-again c =
-    let b = c .before .before .before .before .before .before .before .before in
+    let back = c .before .before .before .before .before .before .before in
+    let b = back .before in
     let l = b .loop in
     let r = c .before .before .before .before .read .given in
     let p = c .before .put-word in

@@ -42,7 +42,8 @@ put-parts-requires c κs = let f = c .before .before .before .before .before in
 
 put-target-requires : tie.Need-put-target-requires
 put-target-requires c κs =
-    let earlier = c .before .before .before .before .before .before .before .before in
+    let back = c .before .before .before .before .before .before .before in
+    let earlier = back .before in
     let f = earlier .before in
     let number = f .before .before .before .before .args .number in
     let fields : Small (f .fields-of .result) = rw (f .fields-of .ensures) (small _) in
@@ -52,7 +53,8 @@ put-target-requires c κs =
 
 slice-write-room : tie.Need-slice-write-room
 slice-write-room c =
-    let earlier = c .before .before .before .before .before .before .before .before in
+    let back = c .before .before .before .before .before .before .before in
+    let earlier = back .before in
     let f = earlier .before .before .before .before in
     let number = f .before .before .before .before .args .number in
     let fields : Small (f .fields-of .result) = rw (f .fields-of .ensures) (small _) in
@@ -63,19 +65,22 @@ slice-write-room c =
 
 add-result : tie.Need-add-result
 add-result c =
-    let earlier = c .before .before .before .before .before .before .before .before in
+    let back = c .before .before .before .before .before .before .before in
+    let earlier = back .before in
     let t = c .before .before .put-target in
     omega (arith, slice-write-room c, t .kept .0, c .before .before .before .before .before .before .put-parts .kept .0, earlier .before .before .put-number .kept .0)
 
 same-length : tie.Need-same-length
 same-length c =
-    let earlier = c .before .before .before .before .before .before .before .before in
+    let back = c .before .before .before .before .before .before .before in
+    let earlier = back .before in
     let t = c .before .before .put-target in
     length-set (t .last .0) (t .result) 10 ∙ t .kept .0 ∙ c .before .before .before .before .before .before .put-parts .kept .0 ∙ earlier .before .before .put-number .kept .0
 
 returns-3 : tie.Need-returns-3
 returns-3 c =
-    let earlier = c .before .before .before .before .before .before .before .before in
+    let back = c .before .before .before .before .before .before .before in
+    let earlier = back .before in
     let f = earlier .before .before .before .before in
     let number = f .before .before .before .before .args .number in
     let fields : Small (f .fields-of .result) = rw (f .fields-of .ensures) (small _) in

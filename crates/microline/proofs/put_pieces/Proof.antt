@@ -95,14 +95,15 @@ loop-less c = omega arith
 
 loop-again : tie.Need-loop-again Inv-loop μ-loop
 loop-again c =
-    let earlier = c .before .before .before .before .before .before .before .before in
+    let back = c .before .before .before .before .before .before .before in
+    let earlier = back .before in
     let l = earlier .before in
     let s = l .before .before .before .before .before in
     let k = getD (now (s .args .which)) (l .loop .i) 0 in
-    let known : k < 47 = known-at (now (s .args .which)) (l .loop .i) (s .pre .1 .0) (c .before .before .before .before .before .before .before .before .loop-test .taken) in
+    let known : k < 47 = known-at (now (s .args .which)) (l .loop .i) (s .pre .1 .0) (back .before .loop-test .taken) in
     let which = now (s .args .which) in
     let i = l .loop .i in
-    let inside = c .before .before .before .before .before .before .before .before .loop-test .taken in
+    let inside = back .before .loop-test .taken in
     let e = table-entry (now (s .args .texts)) (now (s .args .starts)) k (s .pre .0 .0) (s .pre .0 .1) known in
     let longer = spelt-length which i inside in
     let w = same-text (e .same) (wrote (omega (arith, ap length (e .same), longer, l .loop .inv .1, l .loop .inv .2, s .pre .1 .1)) (c .before .before .put .ensures)) in (

@@ -33,7 +33,8 @@ next-token-requires-2 c κs = search needs
 
 returns-3 : tie.Need-returns-3
 returns-3 c =
-    let s = c .before .before .before .before .before .before .before .before in
+    let back = c .before .before .before .before .before .before .before in
+    let s = back .before in
     let text = now (s .args .text) in
     let bytes = bytes-all text (λ i. omega (arith, c .before .before .before .before .before .before .before .shared-slice-known .given i)) in
     let n = c .before .before .before .before in
@@ -45,10 +46,11 @@ read-parts-requires c κs = search needs
 
 returns-4 : tie.Need-returns-4
 returns-4 c =
-    let earlier = c .before .before .before .before .before .before .before .before in
+    let back = c .before .before .before .before .before .before .before in
+    let earlier = back .before in
     let s = earlier .before in
     let text = now (s .args .text) in
-    let bytes = bytes-all text (λ i. omega (arith, c .before .before .before .before .before .before .before .before .shared-slice-known .given i)) in
+    let bytes = bytes-all text (λ i. omega (arith, back .before .shared-slice-known .given i)) in
     let n = c .before .before .before .before .before in
     c .read-parts .ensures
     ∙ with-parts text bytes (s .args .at) (s .args .line .0) (n .before .before .if1 .left) (n .before .next-token .result) (n .before .next-token .ensures)

@@ -53,7 +53,8 @@ as-reading-requires c κs = search needs
 
 returns : tie.Need-returns Inv-loop μ-loop
 returns c =
-    let s = c .before .before .before .before .before .before .before .before in
+    let back = c .before .before .before .before .before .before .before in
+    let s = back .before in
     let l = c .before .before .before .before .before .loop in
     let e = reached-end (now (s .args .text)) (s .args .at) (l .parts) (l .next) (l .inv) (c .before .before .before .if1 .left) in
     c .as-reading .ensures

@@ -53,25 +53,28 @@ number-from-requires c κs =
 
 returns-4 : tie.Need-returns-4
 returns-4 c =
-    let earlier = c .before .before .before .before .before .before .before .before in
+    let back = c .before .before .before .before .before .before .before in
+    let earlier = back .before in
     c .number-from .ensures ∙ earlier .before .past-spaces .ensures .0
 
 sign-from-requires : tie.Need-sign-from-requires
 sign-from-requires c κs =
+    let back = c .before .before .before .before .before .before .before in
     let e = c .before .before .before .before .before .wide .ensures .0 in
     let h = c .before .before .before .before .before .before .before .if1 .left in (
       h,
       record {
         no-letter = ap letter (sym e) ∙ sym (c .before .before .before .is-letter .ensures) ∙ c .before .before .if3 .left;
         no-digit = ap digit (sym e) ∙ sym (c .before .is-digit .ensures) ∙ c .if4 .left;
-        no-space = c .before .before .before .before .before .before .before .before .past-spaces .ensures .1 h;
+        no-space = back .before .past-spaces .ensures .1 h;
         no-end = λ z. c .before .before .before .before .if2 .left (e ∙ z);
       },
     )
 
 returns-5 : tie.Need-returns-5
 returns-5 c =
-    let earlier = c .before .before .before .before .before .before .before .before in
+    let back = c .before .before .before .before .before .before .before in
+    let earlier = back .before in
     c .sign-from .ensures ∙ earlier .before .past-spaces .ensures .0
 
 pub next-token-spec : {M : Type 1} → statement M
