@@ -6,12 +6,12 @@ use mathlib.Core.Bool.{Bool, true, false, cond, _&&_, true≢false, false≢true
 use mathlib.Core.List.{List, [], _∷_}
 use borrow.Author.Tests.{ltb-true}
 use lib.Dec.{ltb, eqb}
-use Rattle.token.specs.Tokens.{Token}
+use Rattle.token.specs.Tokens.{Token, index}
 use Rattle.text.specs.Text.{bytes, same, _is_}
 use Rattle.text.specs.Decimal.{fromDecimal}
 use Rattle.text.proofs.Same.{same-equal}
 use Rattle.token.proofs.Decimals.{decimal-of}
-use Rattle.part.specs.Grammar.{destination, formula, last, bare, jump, test, part, index, registerNamed}
+use Rattle.part.specs.Grammar.{destination, formula, last, bare, jump, test, part, registerNamed}
 use Rattle.token.specs.Next.{packed}
 use Rattle.part.specs.declared.Part.{Part}
 use Rattle.part.specs.declared.Part.the-variants.{Operation, Transfer, Jump, Foreign}

@@ -7,13 +7,13 @@ use native.Mathlib.Omega.{arith}
 use borrow.Author.Tests.{lt-ltb, eqb-true, not-true}
 use lib.Dec.{ltb, eqb}
 use lib.ListN.{getD}
-use Rattle.token.specs.Tokens.{Token}
+use Rattle.token.specs.Tokens.{Token, index}
 use Rattle.text.specs.Text.{bytes, same, _is_}
-use Rattle.part.specs.Grammar.{registers, operation, formula, last, front, bare, index, registerNamed}
+use Rattle.token.proofs.Names.{index-holds}
+use Rattle.part.specs.Grammar.{registers, operation, formula, last, front, bare, registerNamed}
 use Rattle.part.specs.declared.Part.{Part}
 use Rattle.part.specs.declared.Part.the-variants.{Operation, Foreign}
 use Rattle.word.proofs.Tests.{both, cond-same, all, all-at}
-use Rattle.part.proofs.Words.{index-holds}
 
 -- The register a, written out.
 abbrev pub name : ℕ → Token

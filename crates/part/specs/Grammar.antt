@@ -1,10 +1,10 @@
 -- The parts of a line, from their tokens (01, Micro text and images).
-use Prim.Native.Nat.{ℕ, suc}
+use Prim.Native.Nat.{ℕ}
 use mathlib.Core.Bool.{cond, _&&_}
 use mathlib.Core.List.{List, [], _∷_, _++_}
 use lib.Dec.{ltb}
-use Rattle.token.specs.Tokens.{Token}
-use Rattle.text.specs.Text.{bytes, same, _is_}
+use Rattle.token.specs.Tokens.{Token, index}
+use Rattle.text.specs.Text.{bytes, _is_}
 use Rattle.text.specs.Decimal.{fromDecimal}
 use Rattle.part.specs.declared.Part.{Part}
 use Rattle.part.specs.declared.Part.the-variants.{Operation, Transfer, Jump, Foreign}
@@ -12,11 +12,6 @@ use Rattle.part.specs.declared.Part.the-variants.{Operation, Transfer, J
 -- Registers, by number.
 abbrev pub registers : List Token
 registers = bytes "cp" ∷ bytes "ac" ∷ bytes "pp" ∷ bytes "ri" ∷ bytes "rt" ∷ bytes "masc" ∷ bytes "rem" ∷ bytes "rdm" ∷ []
-
--- The index of t in a list, which is the list's length where t is not in it.
-unfoldable pub index : Token → List Token → ℕ
-index t [] = 0
-index t (x ∷ xs) = cond (same t x) 0 (suc (index t xs))
 
 -- A register's number, or 8.
 unfoldable pub registerNamed : Token → ℕ

@@ -5,4 +5,5 @@ pub mod Scan
 pub mod Runs
 pub mod Next
 pub mod Decimals
+pub mod Names
 pub mod Laws

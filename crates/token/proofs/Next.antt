@@ -12,7 +12,7 @@ use lib.Seq.{drop-drop}
 use Rattle.text.specs.Text.{before, lineAt, endAt, span}
 use Rattle.text.proofs.Lines.{line-behind, line-within, line-part}
 use Rattle.token.specs.Tokens.{Token, ended, tokensAfter, tokens}
-use Rattle.token.specs.Next.{grown, packedAfter, packed, first, spaces, scanned}
+use Rattle.token.specs.Next.{startAt, grown, packedAfter, packed, first, spaces, scanned}
 use Rattle.token.specs.declared.Scanned.{Scanned}
 use Rattle.token.proofs.Split.{Split, split}
 use Rattle.token.specs.Code.Numbers.{codesAt}
@@ -54,34 +54,37 @@ module _ (text : List ℕ) (at k : ℕ) (t : Token) (s : Split (lineAt text at) 
 
 -- The same law with the token as its bytes, which stand in the text from its start on; no bytes where there is none.
 pub record NextBytes (text : List ℕ) (at : ℕ) (r : Scanned) : Type 0 where
-  pub tokens-at : tokens (lineAt text at) ≡ ended (span text (r .start) (r .behind)) (tokens (lineAt text (r .behind)))
-  pub none : span text (r .start) (r .behind) ≡ [] → tokens (lineAt text at) ≡ []
-  pub number : r .token ≡ packed (span text (r .start) (r .behind))
-  pub in-order : (r .start ≤ r .behind) × (at ≤ r .start)
+  pub tokens-at : tokens (lineAt text at) ≡ ended (span text (startAt text at) (r .behind)) (tokens (lineAt text (r .behind)))
+  pub none : span text (startAt text at) (r .behind) ≡ [] → tokens (lineAt text at) ≡ []
+  pub number : r .token ≡ packed (span text (startAt text at) (r .behind))
+  pub in-order : (startAt text at ≤ r .behind) × (at ≤ startAt text at)
 
 pub next-bytes : (text : List ℕ) (at : ℕ) (r : Scanned) → r ≡ scanned text at → NextBytes text at r
 unfolding scanned ended tokensAfter
-next-bytes text at r e = subst (NextBytes text at) (sym e) (go (first (tokens (lineAt text at))) (spaces (lineAt text at)) (split (lineAt text at)))
+next-bytes text at r e = subst (NextBytes text at) (sym e) (go (first (tokens (lineAt text at))) (split (lineAt text at)))
   where
-    empty : (t : Token) (k : ℕ) → Split (lineAt text at) t k → t ≡ [] → tokens (lineAt text at) ≡ []
-    empty [] k s z =
+    k : ℕ
+    k = spaces (lineAt text at)
+
+    empty : (t : Token) → Split (lineAt text at) t k → t ≡ [] → tokens (lineAt text at) ≡ []
+    empty [] s z =
         let h : length (lineAt text at) ≤ k + 0 = omega (arith, s .none refl) in
         s .all ∙ ap tokens (drop-of-length-le (lineAt text at) h)
-    empty (x ∷ u) k s z = absurd (omega (arith, ap length z))
+    empty (x ∷ u) s z = absurd (omega (arith, ap length z))
 
-    go : (t : Token) (k : ℕ) → Split (lineAt text at) t k → NextBytes text at (record { token = packed t; start = at + k; behind = at + k + length t })
-    go t k s =
+    go : (t : Token) → Split (lineAt text at) t k → NextBytes text at (record { token = packed t; behind = at + k + length t })
+    go t s =
         let p : at + k + length t - (at + k) ≡ length t = omega arith in
         let b : t ≡ span text (at + k) (at + k + length t) =
         s .bytes ∙ line-part (length t) k (drop at text) (s .within) ∙ ap (take (length t)) (drop-drop k at text) ∙ ap (λ (n : ℕ). take n (drop (at + k) text)) (sym p) in
         record {
           tokens-at = s .all ∙ ap (λ (u : List ℕ). ended t (tokens u)) (sym (line-behind-token text at k t s)) ∙ ap (λ (u : Token). ended u (tokens (lineAt text (at + k + length t)))) b;
-          none = λ z. empty t k s (b ∙ z);
+          none = λ z. empty t s (b ∙ z);
           number = ap packed b;
           in-order = (omega arith, omega arith);
         }
 
-holds : (text : List ℕ) (at k : ℕ) (t : Token) → Split (lineAt text at) t k → NextToken text at (record { token = packed t; start = at + k; behind = at + k + length t })
+holds : (text : List ℕ) (at k : ℕ) (t : Token) → Split (lineAt text at) t k → NextToken text at (record { token = packed t; behind = at + k + length t })
 unfolding ended tokensAfter
 holds text at k [] s =
     let h : length (lineAt text at) ≤ k + 0 = omega (arith, s .none refl) in

@@ -82,7 +82,7 @@ module _ (p : ℕ → Bool) (of-class : Class p) (text : List ℕ) (at : ℕ) wh
 
   -- The byte c at i, with the test whether the class has it: the run ends there, or goes on.
   module _ (token i c : ℕ) (inside : Bool) (r : Run p text at token i) (q : c ≡ getD text i 0) (t : inside ≡ p c) where
-    pub run-stops : not inside ≡ true → record { token = token; start = at; behind = i } ≡ scanned text at
+    pub run-stops : not inside ≡ true → record { token = token; behind = i } ≡ scanned text at
     run-stops n =
         token-ends text at (r .first) (r .rest) i (r .along) (λ h. goes-on token i (getD text i 0) r ∙ ap p (sym q) ∙ sym t ∙ not-true inside n) token (r .number)
 
@@ -99,5 +99,5 @@ module _ (p : ℕ → Bool) (of-class : Class p) (text : List ℕ) (at : ℕ) wh
         }
 
   -- The text is over.
-  pub run-over : (token i : ℕ) → Run p text at token i → length text ≤ i → record { token = token; start = at; behind = i } ≡ scanned text at
+  pub run-over : (token i : ℕ) → Run p text at token i → length text ≤ i → record { token = token; behind = i } ≡ scanned text at
   run-over token i r past = token-ends text at (r .first) (r .rest) i (r .along) (λ h. absurd (omega arith)) token (r .number)

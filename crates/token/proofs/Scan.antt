@@ -11,31 +11,52 @@ use lib.ListN.{length, getD, length-append}
 use Rattle.text.specs.Text.{same, lineAt}
 use Rattle.text.proofs.Lines.{text-ends, line-ends, line-goes-on}
 use Rattle.token.specs.Tokens.{Token, every, oneToken, under, ended, going, tokensAfter, tokens, startedBy}
-use Rattle.token.specs.Next.{packed, first, spaces, scanned}
+use Rattle.token.specs.Next.{startAt, packed, first, spaces, scanned}
 use Rattle.token.proofs.Packed.{short, known}
 use Rattle.token.proofs.Split.{tokens-first}
 use Rattle.token.specs.Code.Numbers.{numeral, BeginsSign, codeOf}
 
 -- What is scanned where the line's tokens are known.
-found : (text : List ℕ) (at n k start behind : ℕ) (t : Token) → n ≡ packed t → first (tokens (lineAt text at)) ≡ t → spaces (lineAt text at) ≡ k
-    → start ≡ at + k → behind ≡ at + k + length t → record { token = n; start = start; behind = behind } ≡ scanned text at
+found : (text : List ℕ) (at n k behind : ℕ) (t : Token) → n ≡ packed t → first (tokens (lineAt text at)) ≡ t → spaces (lineAt text at) ≡ k
+    → behind ≡ at + k + length t → record { token = n; behind = behind } ≡ scanned text at
 unfolding scanned
-found text at n k start behind t e f s a b = rw (f, s, e, a, b)
+found text at n k behind t e f s b = rw (f, s, e, b)
 
--- A space before a token, and the end of the line.
+-- A space before a token, a byte that is none, and the end of the line.
 module _ (text : List ℕ) (at : ℕ) where
+  spaced : at < length text → getD text at 0 ≡ code " " → lineAt text at ≡ code " " ∷ lineAt text (at + 1)
+  spaced h e = line-goes-on text at h (λ z. omega arith) ∙ ap (λ (c : ℕ). c ∷ lineAt text (at + 1)) e
+
   pub one-space : at < length text → getD text at 0 ≡ code " " → scanned text (at + 1) ≡ scanned text at
   unfolding scanned startedBy spaces
   one-space h e =
       let s : List ℕ = lineAt text (at + 1) in
-      let p : lineAt text at ≡ code " " ∷ s = line-goes-on text at h (λ z. omega arith) ∙ ap (λ (c : ℕ). c ∷ s) e in
       let t : Token = first (tokens s) in
-      found text at (packed t) (suc (spaces s)) (at + 1 + spaces s) (at + 1 + spaces s + length t) t refl (ap first (ap tokens p ∙ tokens-first (code " ") s)) (ap spaces p)
-      (omega arith) (omega arith)
+      found text at (packed t) (suc (spaces s)) (at + 1 + spaces s + length t) t refl (ap first (ap tokens (spaced h e) ∙ tokens-first (code " ") s)) (ap spaces (spaced h e)) (omega arith)
 
-  pub no-token : lineAt text at ≡ [] → record { token = 1; start = at; behind = at } ≡ scanned text at
+  pub space-passed : at < length text → getD text at 0 ≡ code " " → startAt text (at + 1) ≡ startAt text at
+  unfolding spaces
+  space-passed h e =
+      let n : spaces (lineAt text at) ≡ suc (spaces (lineAt text (at + 1))) = ap spaces (spaced h e) in
+      omega (arith, n)
+
+  pub starts-here : (at < length text → getD text at 0 ≡ code " " → ⊥) → startAt text at ≡ at
+  unfolding spaces
+  starts-here n = go (ltb at (length text)) (eqb (getD text at 0) 10) refl refl
+    where
+      none : spaces (lineAt text at) ≡ 0 → startAt text at ≡ at
+      none z = omega (arith, z)
+
+      go : (b e : Bool) → ltb at (length text) ≡ b → eqb (getD text at 0) 10 ≡ e → startAt text at ≡ at
+      go false e p q = none (ap spaces (text-ends text at (ltb-false at (length text) p)))
+      go true true p q = none (ap spaces (line-ends text at (ltb-true at (length text) p) (eqb-true (getD text at 0) 10 q)))
+      go true false p q =
+          let h : at < length text = ltb-true at (length text) p in
+          none (ap spaces (line-goes-on text at h (eqb-false (getD text at 0) 10 q)) ∙ rw (ne-eqb (getD text at 0) (code " ") (n h)))
+
+  pub no-token : lineAt text at ≡ [] → record { token = 1; behind = at } ≡ scanned text at
   unfolding first spaces tokensAfter ended
-  no-token e = found text at 1 0 at at [] refl (rw e) (rw e) (omega arith) (omega arith)
+  no-token e = found text at 1 0 at [] refl (rw e) (rw e) (omega arith)
 
 -- What the scanning of the token t from `at` holds at i.
 pub record Along (text : List ℕ) (at : ℕ) (t : List ℕ) (i : ℕ) : Type 0 where
@@ -80,9 +101,9 @@ module _ (text : List ℕ) (at x : ℕ) (t : List ℕ) (i : ℕ) (a : Along text
           let h : i < length text = ltb-true i (length text) p in
           rw (line-goes-on text i h (eqb-false (getD text i 0) 10 q), tokens-first (getD text i 0) (lineAt text (i + 1))) (rw (apart h))
 
-  pub token-ends : (token : ℕ) → token ≡ packed (x ∷ t) → record { token = token; start = at; behind = i } ≡ scanned text at
+  pub token-ends : (token : ℕ) → token ≡ packed (x ∷ t) → record { token = token; behind = i } ≡ scanned text at
   unfolding first
-  token-ends token e = found text at token 0 at i (x ∷ t) e (ap first (sym (a .kept) ∙ ends)) (a .no-space) (omega arith) (omega (arith, a .here))
+  token-ends token e = found text at token 0 i (x ∷ t) e (ap first (sym (a .kept) ∙ ends)) (a .no-space) (omega (arith, a .here))
 
 -- Whether two bytes are `:=`, `<<` or `>>`, by their number.
 abbrev pub pairs : ℕ → ℕ → Bool
@@ -114,11 +135,11 @@ module _ (text : List ℕ) (at c : ℕ) (h : at < length text) (q : c ≡ getD t
   in-line d o z = true≢false (sym o ∙ rw (z, b .no-letter, b .no-digit) (simp and-false))
 
   pub sign-alone : (at + 1 < length text → (getD text (at + 1) 0 < 256) × (pairs c (getD text (at + 1) 0) ≡ false))
-      → record { token = 256 + c; start = at; behind = at + 1 } ≡ scanned text at
+      → record { token = 256 + c; behind = at + 1 } ≡ scanned text at
   sign-alone n = token-ends text at c [] (at + 1) alone (λ z. pair-token (getD text (at + 1) 0) (n z .0) ∙ n z .1) (256 + c) refl
 
   pub sign-pair : (d : ℕ) → at + 1 < length text → d ≡ getD text (at + 1) 0 → d < 256 → pairs c d ≡ true
-      → record { token = 65536 + c * 256 + d; start = at; behind = at + 1 + 1 } ≡ scanned text at
+      → record { token = 65536 + c * 256 + d; behind = at + 1 + 1 } ≡ scanned text at
   sign-pair d k r m e =
       let o : oneToken (c ∷ d ∷ []) ≡ true = pair-token d m ∙ e in
       token-ends text at c (d ∷ []) (at + 1 + 1) (along-more text (at + 1) d k r (in-line d o) at (c ∷ []) alone o)

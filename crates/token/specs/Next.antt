@@ -1,4 +1,4 @@
--- A token as a number, and the next token of a line: what `next_token` promises.
+-- A token as a number, and the next token of a line: what `start` and `next_token` promise. The token's bytes stand in between.
 use Prim.Native.Nat.{ℕ, suc, _+_, _*_, _^_}
 use Prim.Native.Char.{code}
 use mathlib.Core.Bool.{cond}
@@ -31,9 +31,12 @@ unfoldable pub spaces : List ℕ → ℕ
 spaces [] = 0
 spaces (c ∷ s) = cond (eqb c (code " ")) (suc (spaces s)) 0
 
--- The first token of the line that goes on at `at`, where its bytes begin, and what is behind them; of spaces alone both are the line's end.
+-- Where the next token of the line that goes on at `at` begins: behind spaces. Where there is none this is the line's end.
+abbrev pub startAt : List ℕ → ℕ → ℕ
+startAt text at = at + spaces (lineAt text at)
+
+-- That token, and what is behind its bytes.
 unfoldable pub scanned : List ℕ → ℕ → Scanned
 scanned text at =
-    let line : List ℕ = lineAt text at in
-    let token : Token = first (tokens line) in
-    record { token = packed token; start = at + spaces line; behind = at + spaces line + length token }
+    let token : Token = first (tokens (lineAt text at)) in
+    record { token = packed token; behind = startAt text at + length token }

@@ -1,11 +1,11 @@
 -- Bytes to tokens (01, Micro text and images). A token is its bytes: a run of letters, a run of digits, `:=`, `<<` and `>>` are
 -- one token each, any other byte is one by itself, and spaces only stand around tokens.
-use Prim.Native.Nat.{ℕ}
+use Prim.Native.Nat.{ℕ, suc}
 use Prim.Native.Char.{code}
 use mathlib.Core.Bool.{Bool, true, false, cond, _&&_, _||_}
 use mathlib.Core.List.{List, [], _∷_, _++_}
 use lib.Dec.{leb, eqb}
-use Rattle.text.specs.Text.{_is_}
+use Rattle.text.specs.Text.{same, _is_}
 use Rattle.text.specs.Decimal.{digit}
 
 abbrev pub Token : Type 0
@@ -48,3 +48,8 @@ tokensAfter t (c ∷ s) = going (oneToken (t ++ c ∷ [])) t (tokensAfter (under
 
 abbrev pub tokens : List ℕ → List Token
 tokens s = tokensAfter [] s
+
+-- The index of a token in a list of names; where it is none of them, the length of the list.
+unfoldable pub index : Token → List Token → ℕ
+index t [] = 0
+index t (x ∷ xs) = cond (same t x) 0 (suc (index t xs))

@@ -5,13 +5,12 @@ ghost use mathlib.Core.Bool.{true};
 ghost use lib.ListN.{length, getD};
 ghost use Rattle.text.specs.Decimal.{digit};
 ghost use Rattle.token.specs.Tokens.{letter};
-ghost use Rattle.token.specs.Next.{grown as grownBy, scanned};
+ghost use Rattle.token.specs.Next.{grown as grownBy, startAt, scanned};
 ghost use Rattle.token.specs.Code.Numbers.{decimalOf, BeginsSign};
 
-// A token as a number, where its bytes begin, and what is behind them.
+// A token as a number, and what is behind its bytes. Two numbers, since three would go by way of memory at each token.
 pub struct Scanned {
     pub token: u64,
-    pub start: usize,
     pub behind: usize,
 }
 
@@ -53,8 +52,9 @@ fn grown(token: u64, c: u64) -> u64
     token
 }
 
-// The first byte from `at` on that is no space.
-fn past_spaces(text: &[u8], at: usize) -> usize
+// Where the next token begins: the first byte from `at` on that is no space. From there to what is behind it are the token's bytes.
+pub fn start(text: &[u8], at: usize) -> usize
+    ensures { λ r. ⌜ r ≡ startAt (now (text .entry)) at ⌝ }
     ensures { λ r. ⌜ scanned (now (text .entry)) r ≡ scanned (now (text .entry)) at ⌝ }
     ensures { λ r. ⌜ (r < length (now (text .entry)) → getD (now (text .entry)) r 0 ≡ 32 → ⊥) ⌝ }
 {
@@ -78,20 +78,12 @@ fn word_from(text: &[u8], at: usize) -> Scanned
     while i < text.len() {
         let c = wide(text[i]);
         if !is_letter(c) {
-            return Scanned {
-                token,
-                start: at,
-                behind: i,
-            };
+            return Scanned { token, behind: i };
         }
         token = grown(token, c);
         i += 1;
     }
-    Scanned {
-        token,
-        start: at,
-        behind: i,
-    }
+    Scanned { token, behind: i }
 }
 
 // The run of digits that begins at `at`.
@@ -104,20 +96,12 @@ fn number_from(text: &[u8], at: usize) -> Scanned
     while i < text.len() {
         let c = wide(text[i]);
         if !is_digit(c) {
-            return Scanned {
-                token,
-                start: at,
-                behind: i,
-            };
+            return Scanned { token, behind: i };
         }
         token = grown(token, c);
         i += 1;
     }
-    Scanned {
-        token,
-        start: at,
-        behind: i,
-    }
+    Scanned { token, behind: i }
 }
 
 // The token that any other byte begins: that byte, or `:=`, `<<`, `>>`.
@@ -132,14 +116,12 @@ fn sign_from(text: &[u8], at: usize) -> Scanned
         if (token == ASSIGN) | (token == LEFT) | (token == RIGHT) {
             return Scanned {
                 token,
-                start: at,
                 behind: behind + 1,
             };
         }
     }
     Scanned {
         token: 256 + c,
-        start: at,
         behind,
     }
 }
@@ -148,11 +130,10 @@ fn sign_from(text: &[u8], at: usize) -> Scanned
 pub fn next_token(text: &[u8], at: usize) -> Scanned
     ensures { λ r. ⌜ r ≡ scanned (now (text .entry)) at ⌝ }
 {
-    let i = past_spaces(text, at);
+    let i = start(text, at);
     if text.len() <= i {
         return Scanned {
             token: NONE,
-            start: i,
             behind: i,
         };
     }
@@ -160,7 +141,6 @@ pub fn next_token(text: &[u8], at: usize) -> Scanned
     if c == 10 {
         return Scanned {
             token: NONE,
-            start: i,
             behind: i,
         };
     }

@@ -115,11 +115,12 @@ tokens-spread (p ∷ ps) =
     tokens-split (32 ∷ p) [] 59 (spaced ps) refl
     ∙ ap₂ (λ (x y : List Token). x ++ y) (space-first p) (sign-first 59 (signs .1) ps ∙ ap (λ (x : List Token). (59 ∷ []) ∷ x) (tokens-spread ps))
 
--- Divided at the semicolons they are the parts again, with nothing behind the last.
-abbrev pub AllUndivided : List (List ℕ) → Type 0
-AllUndivided [] = Unit {0}
-AllUndivided (p ∷ ps) = (undivided (tokens p) ≡ true) × AllUndivided ps
+-- A property of all in a list.
+abbrev pub All : {A : Type 0} → (A → Type 0) → List A → Type 0
+All P [] = Unit {0}
+All P (x ∷ xs) = P x × All P xs
 
+-- Divided at the semicolons they are the parts again, with nothing behind the last.
 semicolon : (ps : List (List Token)) → (p : List Token) × (qs : List (List Token)) × (ps ≡ p ∷ qs) → cut (59 ∷ []) ps ≡ [] ∷ ps
 unfolding cut same
 semicolon ps (p, qs, e) = rw e
@@ -135,7 +136,7 @@ divided-first (t ∷ ts) us e =
     let h = both (not (t is ";")) (undivided ts) e in
     ap (cut t) (divided-first ts us (h .1)) ∙ other t ts (divided us) (not-true (t is ";") (h .0))
 
-divided-spread : (ps : List (List ℕ)) → AllUndivided ps → divided (spread ps) ≡ map tokens ps ++ [] ∷ []
+divided-spread : (ps : List (List ℕ)) → All (λ (p : List ℕ). undivided (tokens p) ≡ true) ps → divided (spread ps) ≡ map tokens ps ++ [] ∷ []
 unfolding spread divided
 divided-spread [] a = refl
 divided-spread (p ∷ ps) a = divided-first (tokens p) (spread ps) (a .0) ∙ ap (λ (x : List (List Token)). tokens p ∷ x) (divided-spread ps (a .1))
@@ -146,5 +147,5 @@ parts-all [] = refl
 parts-all (p ∷ []) = refl
 parts-all (p ∷ q ∷ ps) = ap (λ (x : List Part). part p ∷ x) (parts-all (q ∷ ps))
 
-pub parts-back : (ps : List (List ℕ)) → AllUndivided ps → parts (divided (tokens (spaced ps))) ≡ map part (map tokens ps)
+pub parts-back : (ps : List (List ℕ)) → All (λ (p : List ℕ). undivided (tokens p) ≡ true) ps → parts (divided (tokens (spaced ps))) ≡ map part (map tokens ps)
 parts-back ps a = ap (λ (x : List Token). parts (divided x)) (tokens-spread ps) ∙ ap parts (divided-spread ps a) ∙ parts-all (map tokens ps)

@@ -8,8 +8,8 @@ use borrow.Author.Tests.{eqb-true, ltb-true, lt-ltb}
 use lib.Dec.{ltb, eqb}
 use lib.ListN.{length}
 use Rattle.microword.specs.declared.Fields.{Fields}
-use Rattle.token.specs.Tokens.{Token, every, oneToken, under, ended, going, tokensAfter, tokens, startedBy}
-use Rattle.part.specs.Grammar.{destination, operation, formula, last, front, bare, jump, test, part, index, registerNamed}
+use Rattle.token.specs.Tokens.{Token, every, oneToken, under, ended, going, tokensAfter, tokens, startedBy, index}
+use Rattle.part.specs.Grammar.{destination, operation, formula, last, front, bare, jump, test, part, registerNamed}
 use Rattle.microtext.specs.Listing as listing
 use Rattle.microtext.specs.Listing.{formulas, jumpTexts}
 use Rattle.part.specs.declared.Part.{Part}

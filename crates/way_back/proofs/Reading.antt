@@ -19,8 +19,8 @@ use Rattle.microassembler.proofs.Filled.{by-lines}
 use Rattle.text.specs.Text.{prefixed, lines}
 use Rattle.text.specs.Decimal.{shortDecimal}
 use Rattle.way_back.proofs.Printed.{unbroken, number-back}
-use Rattle.way_back.proofs.Pieces.{spaced}
-use Rattle.way_back.proofs.Relisted.{All, texts, texts-each, texts-few, body, body-spaced, line-back}
+use Rattle.way_back.proofs.Pieces.{All, spaced}
+use Rattle.way_back.proofs.Relisted.{texts, texts-each, texts-few, body, body-spaced, line-back}
 
 -- Lines of a listing.
 lines-first : (l s : List ℕ) → unbroken l ≡ true → lines (l ++ 10 ∷ s) ≡ l ∷ lines s
@@ -87,8 +87,7 @@ listed-short (w ∷ ws) k h =
 
 -- No word of the store is bad.
 abbrev pub AllGood : List ℕ → Type 0
-AllGood [] = Unit {0}
-AllGood (w ∷ ws) = (badWord w ≡ false) × AllGood ws
+AllGood ws = All (λ (w : ℕ). badWord w ≡ false) ws
 
 filled-listed : (ws : List ℕ) (k : ℕ) (us : List ℕ) → k + length ws ≤ 64 → AllGood ws → filled k us (each k ws) ≡ laid (sets us k (map normalForm ws))
 unfolding filled each onward

@@ -21,7 +21,7 @@ use Rattle.word.proofs.Tests.{neither}
 use Rattle.text.specs.Text.{bytes, same}
 use Rattle.text.specs.Decimal.{fromDecimal, shortDecimal}
 use Rattle.way_back.proofs.Printed.{Back, second, target, operation-back, rd-back, wr-back, jump-back, number-back, undivided}
-use Rattle.way_back.proofs.Pieces.{spaced, tokens-split, colon-first, AllUndivided, parts-back}
+use Rattle.way_back.proofs.Pieces.{All, spaced, tokens-split, colon-first, parts-back}
 
 -- Something that is there or not.
 abbrev pub when : {A : Type 0} → Bool → A → List A
@@ -195,10 +195,6 @@ none-foreign false false true to f a b r v q k = refl
 none-foreign false false false to f a b r v q k = refl
 
 -- A property of those that are there.
-abbrev pub All : (List ℕ → Type 0) → List (List ℕ) → Type 0
-All P [] = Unit {0}
-All P (p ∷ ps) = P p × All P ps
-
 each-when : (P : List ℕ → Type 0) (b : Bool) (x : List ℕ) (ps : List (List ℕ)) → (b ≡ true → P x) → All P ps → All P (when b x ++ ps)
 each-when P true x ps h r = (h refl, r)
 each-when P false x ps h r = r
@@ -261,16 +257,12 @@ body-tokens k l m =
     ∙ ap₂ (λ (x y : List Token). x ++ y) (number-back k l .token) (colon-first (texts m))
 
 -- The parts of a line, read back.
-all-undivided : (ps : List (List ℕ)) → All (λ x. undivided (tokens x) ≡ true) ps → AllUndivided ps
-all-undivided [] e = tt
-all-undivided (p ∷ ps) e = (e .0, all-undivided ps (e .1))
-
 texts-parts : (m : Fields) → Within m
     → parts (divided (tokens (spaced (texts m))))
     ≡ when (operates m) (Operation (target m) (m .f) (m .a) (second (m .f) (m .b)))
     ++ (when (hasTransfer m) (Transfer (cond (eqb (m .rd) 1) 1 0) (cond (eqb (m .rd) 1) 0 1)) ++ when (hasJump m) (Jump (m .sq) (m .end)))
 texts-parts m h =
-    parts-back (texts m) (all-undivided (texts m) (texts-each (λ x. undivided (tokens x) ≡ true) m h (λ x p b. b .one-piece)))
+    parts-back (texts m) (texts-each (λ x. undivided (tokens x) ≡ true) m h (λ x p b. b .one-piece))
     ∙ map-when (operates m) (hasTransfer m) (hasJump m) (listing.operation m) (transferText m) (listing.jump m)
     ∙ ap₂ (λ (x y : List Part). x ++ y) (when-same (operates m) (λ e. operation-back m (h .s) (h .f) (h .a) (h .b) .reads))
     (ap₂ (λ (x y : List Part). x ++ y) (when-same (hasTransfer m) (λ e. transfer-back m .reads)) (when-same (hasJump m) (λ e. jump-back m (there m e) (h .sq) (h .end) .reads)))

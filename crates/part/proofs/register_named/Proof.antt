@@ -1,7 +1,8 @@
 -- `register_named` tells the eight names by their numbers.
 use borrow.Author.Tests.{ne-eqb}
+use Rattle.token.specs.Code.Numbers.{position}
 use Rattle.part.proofs.register_named.Statement.{statement}
-use Rattle.part.specs.Code.Stage.{registerOf, position}
+use Rattle.part.specs.Code.Stage.{registerOf}
 use Rattle.part.proofs.register_named.Tie as tie
 
 returns : tie.Need-returns

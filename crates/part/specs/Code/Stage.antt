@@ -1,20 +1,15 @@
 -- Mirrors the code: how far a part has been read, and how a token, as a number, moves it along. It is the grammar taken apart token by token: a part's
 -- tokens taken in turn from the start, then finished, come to what Grammar's `part` says of them (proofs/Laws: `in-turn`).
-use Prim.Native.Nat.{ℕ, suc}
+use Prim.Native.Nat.{ℕ}
 use mathlib.Core.Bool.{Bool, true, false, cond, _&&_}
-use mathlib.Core.List.{List, [], _∷_, map}
+use mathlib.Core.List.{map}
 use lib.Dec.{ltb, eqb}
-use Rattle.token.specs.Code.Numbers.{numeral, decimalOf, codeOf}
+use Rattle.token.specs.Code.Numbers.{numeral, decimalOf, codeOf, position}
 use Rattle.part.specs.Grammar.{registers}
 use Rattle.part.specs.declared.Part.{Part}
 use Rattle.part.specs.declared.Part.the-variants.{Operation, Transfer, Jump, Foreign}
 use Rattle.part.specs.declared.Stage.{Stage}
 use Rattle.part.specs.declared.Stage.the-variants.{Start, Named, Assigned, Opened, Shift, First, Sign, Closing, If, Tested, Then, Goto, Whole, Wrong}
-
--- The position of n in a list, which is the list's length where n is not in it.
-unfoldable pub position : ℕ → List ℕ → ℕ
-position n [] = 0
-position n (x ∷ xs) = cond (eqb n x) 0 (suc (position n xs))
 
 unfoldable pub registerOf : ℕ → ℕ
 registerOf t = position t (map (numeral 1) registers)

@@ -9,14 +9,14 @@ use borrow.Author.Needs.{needs}
 use Rattle.token.proofs.next_token.Statement.{statement}
 use Rattle.token.proofs.next_token.Tie as tie
 
-past-spaces-requires : tie.Need-past-spaces-requires
-past-spaces-requires c κs = search needs
+start-requires : tie.Need-start-requires
+start-requires c κs = search needs
 
 returns : tie.Need-returns
 returns c =
     let s = c .before .before .before in
-    let p = c .before .past-spaces in
-    no-token (now (s .args .text)) (p .result) (text-ends (now (s .args .text)) (p .result) (c .if1 .taken)) ∙ p .ensures .0
+    let p = c .before .start in
+    no-token (now (s .args .text)) (p .result) (text-ends (now (s .args .text)) (p .result) (c .if1 .taken)) ∙ p .ensures .1 .0
 
 shared-slice-read-wide : tie.Need-shared-slice-read-wide
 shared-slice-read-wide c = search needs
@@ -27,10 +27,10 @@ wide-requires c κs = search needs
 returns-2 : tie.Need-returns-2
 returns-2 c =
     let s = c .before .before .before .before .before .before in
-    let p = c .before .before .before .before .past-spaces in
+    let p = c .before .before .before .before .start in
     no-token (now (s .args .text)) (p .result)
     (line-ends (now (s .args .text)) (p .result) (c .before .before .before .if1 .left) (sym (c .before .wide .ensures .0) ∙ c .if2 .taken))
-    ∙ p .ensures .0
+    ∙ p .ensures .1 .0
 
 is-letter-requires : tie.Need-is-letter-requires
 is-letter-requires c κs = search needs
@@ -41,7 +41,7 @@ word-from-requires c κs =
     (c .before .before .before .before .before .if1 .left, ap letter (sym e) ∙ sym (c .before .is-letter .ensures) ∙ c .if3 .taken)
 
 returns-3 : tie.Need-returns-3
-returns-3 c = c .word-from .ensures ∙ c .before .before .before .before .before .before .before .past-spaces .ensures .0
+returns-3 c = c .word-from .ensures ∙ c .before .before .before .before .before .before .before .start .ensures .1 .0
 
 is-digit-requires : tie.Need-is-digit-requires
 is-digit-requires c κs = search needs
@@ -55,7 +55,7 @@ returns-4 : tie.Need-returns-4
 returns-4 c =
     let back = c .before .before .before .before .before .before .before in
     let earlier = back .before in
-    c .number-from .ensures ∙ earlier .before .past-spaces .ensures .0
+    c .number-from .ensures ∙ earlier .before .start .ensures .1 .0
 
 sign-from-requires : tie.Need-sign-from-requires
 sign-from-requires c κs =
@@ -66,7 +66,7 @@ sign-from-requires c κs =
       record {
         no-letter = ap letter (sym e) ∙ sym (c .before .before .before .is-letter .ensures) ∙ c .before .before .if3 .left;
         no-digit = ap digit (sym e) ∙ sym (c .before .is-digit .ensures) ∙ c .if4 .left;
-        no-space = back .before .past-spaces .ensures .1 h;
+        no-space = back .before .start .ensures .1 .1 h;
         no-end = λ z. c .before .before .before .before .if2 .left (e ∙ z);
       },
     )
@@ -75,13 +75,13 @@ returns-5 : tie.Need-returns-5
 returns-5 c =
     let back = c .before .before .before .before .before .before .before in
     let earlier = back .before in
-    c .sign-from .ensures ∙ earlier .before .past-spaces .ensures .0
+    c .sign-from .ensures ∙ earlier .before .start .ensures .1 .0
 
 pub next-token-spec : {M : Type 1} → statement M
 next-token-spec =
     tie.close
     (tie.spec
-    past-spaces-requires
+    start-requires
     returns
     shared-slice-read-wide
     wide-requires

@@ -1,11 +1,11 @@
--- Mirrors the code: the numbers that it compares tokens with, the numbers of a line's tokens, a decimal by its number, and what a sign begins with.
-use Prim.Native.Nat.{ℕ, _+_, _-_, _*_, _/_, _%_}
+-- Mirrors the code: the numbers that it compares tokens with, the numbers of a line's tokens, a name and a decimal by their numbers, and what a sign begins with.
+use Prim.Native.Nat.{ℕ, suc, _+_, _-_, _*_, _/_, _%_}
 use Prim.Native.Char.{code}
 use Prim.Native.String.{String}
 use mathlib.Core.Path.{_≡_}
 use mathlib.Core.Bool.{false, cond, _&&_}
 use mathlib.Core.List.{List, [], _∷_, map}
-use lib.Dec.{leb}
+use lib.Dec.{leb, eqb}
 use Rattle.text.specs.Text.{bytes, lineAt}
 use Rattle.text.specs.Decimal.{digit}
 use Rattle.token.specs.Tokens.{letter, tokens}
@@ -22,6 +22,11 @@ codeOf s = numeral 1 (bytes s)
 -- The tokens of the line that goes on at `at`, as numbers.
 abbrev pub codesAt : List ℕ → ℕ → List ℕ
 codesAt text at = map packed (tokens (lineAt text at))
+
+-- The index of a token in a list of names, by their numbers.
+unfoldable pub position : ℕ → List ℕ → ℕ
+position n [] = 0
+position n (x ∷ xs) = cond (eqb n x) 0 (suc (position n xs))
 
 -- The number of one or two digits with no leading zero, or 100, from a token's number.
 unfoldable pub decimalOf : ℕ → ℕ
