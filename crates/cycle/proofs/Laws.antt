@@ -23,7 +23,7 @@ use Rattle.microword.proofs.Laws.{WithinBy, Within, fields-within}
 use Rattle.word.proofs.Laws.{kept-below}
 use Rattle.word.proofs.Tests.{either}
 use Rattle.cycle.specs.Cycle.{State, result, stored, found, transfer, target, nextLine, arrived, driven, cycleOn}
-use Rattle.cycle.specs.Standing.{stepped, Beginning, beginningOn, beginning}
+use Rattle.cycle.specs.Code.Standing.{stepped, Beginning, beginningOn, beginning}
 use Rattle.cycle.specs.declared.Stepped.{Stepped}
 
 stepped-only : {line line′ place place′ count count′ : ℕ} {half half′ : Half} (stop stop′ : Stop) → line ≡ line′ → half ≡ half′ → place ≡ place′ → count ≡ count′

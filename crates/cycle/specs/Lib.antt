@@ -1,2 +1,2 @@
 pub mod Cycle
-pub mod Standing
+pub mod Code

@@ -7,7 +7,7 @@ ghost use Prim.Native.Nat.{_<_};
 ghost use Rattle.bus.specs.declared.Stop.the-variants.{GoesOn};
 ghost use Rattle.datapath.specs.declared.Half.the-variants.{Nothing};
 ghost use Rattle.cycle.specs.Cycle.{stored, nextLine, cycleOf};
-ghost use Rattle.cycle.specs.Standing.{standing, stepped, beginning, begun};
+ghost use Rattle.cycle.specs.Code.Standing.{standing, stepped, beginning, began};
 use bus::Stop;
 use datapath::Half;
 use microword::Fields;
@@ -79,7 +79,7 @@ struct Begun {
 
 // Read A and B from the registers as they stood; compute; if HS, store to S.
 fn begin(word: u32, line: Line, registers: &mut [u16; 8]) -> Begun
-    ensures { λ r. ⌜ beginning word (line .0) (now (registers .entry)) ≡ begun r (now (registers .exit)) ⌝ }
+    ensures { λ r. ⌜ beginning word (line .0) (now (registers .entry)) ≡ began r (now (registers .exit)) ⌝ }
 {
     let m = microword::fields_of(word);
     let a = m.a as usize;

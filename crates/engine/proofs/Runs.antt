@@ -32,10 +32,10 @@ run-writes store input n s =
     (λ s f. ap held (stays 6 (fieldsOf (controlWord store (s .line))) input s f)) n s
 
 -- The words under the ports are never changed by a run.
-pub run-ports : (store input : List ℕ) (n : ℕ) (s : State) (place : ℕ) → 4092 ≤ place
-    → getD (cycles store input n s .state .memory) place 0 ≡ getD (s .memory) place 0
-run-ports store input n s place h =
-    ap (λ (l : Left). getD (l .memory) place 0) (run-writes store input n s) ∙ after-ports (writes store input n s) (held s) place h
+pub run-ports : (store input : List ℕ) (n : ℕ) (s : State) (x : ℕ) → 4092 ≤ x
+    → getD (cycles store input n s .state .memory) x 0 ≡ getD (s .memory) x 0
+run-ports store input n s x h =
+    ap (λ (l : Left). getD (l .memory) x 0) (run-writes store input n s) ∙ after-ports (writes store input n s) (held s) x h
 
 -- There was room for every word that a run sent to the log.
 run-fits : (store input : List ℕ) (n : ℕ) (s : State) → s .count ≤ length (s .log) → length (toLog (writes store input n s)) ≤ room (held s)

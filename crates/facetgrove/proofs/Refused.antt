@@ -1,81 +1,47 @@
 -- Laws of refused calls: 1 to 4 leave all as found, and a half done above 2 or a line above 63 is refused by 3.
-use Prim.Native.Nat.{ℕ, zero, suc, _≤_, _<_}
-use mathlib.Core.Path.{_≡_, refl, sym, _∙_, ap}
-use mathlib.Core.Bool.{Bool, true, false, cond, _||_, true≢false}
+use Prim.Native.Nat.{ℕ, _≤_, _<_}
+use mathlib.Core.Path.{_≡_, refl, ap}
+use mathlib.Core.Bool.{Bool, true, false, cond, _||_}
 use mathlib.Core.List.{List, [], _∷_}
 use mathlib.Core.Logic.{_⊎_, inl, inr}
 use native.Mathlib.Omega.{arith}
-use borrow.Author.Tests.{lt-ltb, le-ltb, eq-eqb, ne-eqb}
+use borrow.Author.Tests.{lt-ltb, le-ltb, eq-eqb}
 use lib.Dec.{ltb, eqb}
 use lib.ListN.{length, getD}
+use Rattle.turns.specs.Turns.{Turn, Turned, turns, checked}
 use Rattle.turns.proofs.Laws as T
+use Rattle.bus.proofs.Laws.{stopOf, Kind, kind-apart}
+use Rattle.microword.specs.Microword.{fieldsOf}
+use Rattle.store.specs.Store.{controlWord}
 use Rattle.cycle.specs.Cycle.{State}
-use Rattle.engine.specs.Run.{Ended, cycle, turn, cycles, refusal, begun, runs, stateOf}
+use Rattle.cycle.proofs.Writes.{cycle-kind}
+use Rattle.engine.specs.Run.{refusal, cycle, ended, runs, stateOf}
 use Rattle.instruction.specs.Instruction.{State as Interpreter·State, instruct, stateOf as Interpreter·stateOf}
-use Rattle.interpreter.specs.Run.{
-  Ended as Interpreter·Ended,
-  turn as Interpreter·turn,
-  instructions,
-  refusal as Interpreter·refusal,
-  begun as Interpreter·begun,
-  runs as Interpreter·runs,
-}
-use Rattle.caller.specs.Called.{Called}
-use Rattle.caller.specs.Engine.{lineOf, machineOf, ranBy, leaves}
-use Rattle.caller.specs.Interpreter.{cpuOf, leaves as interpreter-leaves}
+use Rattle.instruction.proofs.Laws.{instruct-kind}
+use Rattle.interpreter.specs.Run.{refusal as Interpreter·refusal, runs as Interpreter·runs}
+use Rattle.lists.specs.Called.{Called}
+use Rattle.lists.specs.Engine.{lineOf, machineOf, refuses, leaves}
+use Rattle.lists.specs.Interpreter.{cpuOf, leaves as interpreter-leaves}
 use Rattle.facetgrove.specs.Runs.{engineCalled, interpreterCalled}
 
--- Cycles answer 0 or 5.
-cycles-ran : (store input : List ℕ) (n : ℕ) (s : State) → ranBy (cycles store input n s .said .number) ≡ true
-unfolding cycles ranBy
-cycles-ran store input n s = T.answers (turn store input) (λ k. ranBy k ≡ true) refl (λ s. by (cycle store input s .full)) n s
+-- A run that answers 1 to 4 was refused before its first step, and did nothing: no step is refused by such a number.
+refused-run : {S : Type 0} (refusal : ℕ) (step : S → Turn S) (n : ℕ) (s : S) → ((s : S) → Kind (step s .stop))
+    → 1 ≤ checked refusal step n s .stop → checked refusal step n s .stop ≤ 4
+    → checked refusal step n s ≡ record { state = s; done = 0; cost = 0; stop = checked refusal step n s .stop }
+unfolding checked stopOf
+refused-run {S} refusal step n s kinds low high = by (eqb refusal 0) low high
   where
-    by : (full : Bool) → ranBy (cond full 5 0) ≡ true
-    by true = refl
-    by false = refl
+    end : Bool → Turned S
+    end fine = cond fine (turns step n s) (record { state = s; done = 0; cost = 0; stop = refusal })
 
--- A run that answers neither did nothing.
-refused-run : (store input : List ℕ) (n : ℕ) (s : State) → ranBy (runs store input n s .said .number) ≡ false
-    → (runs store input n s .state ≡ s) × (runs store input n s .done ≡ 0)
-unfolding runs begun
-refused-run store input n s = by (eqb (refusal store input s .number) 0)
-  where
-    end : Bool → Ended
-    end fine = cond fine (cycles store input n s) (record { state = s; done = 0; said = refusal store input s })
+    by : (fine : Bool) → 1 ≤ end fine .stop → end fine .stop ≤ 4 → end fine ≡ record { state = s; done = 0; cost = 0; stop = end fine .stop }
+    by true l h = absurd (kind-apart (turns step n s .stop) (T.answers step Kind refl kinds n s) l h)
+    by false l h = refl
 
-    by : (fine : Bool) → ranBy (end fine .said .number) ≡ false → (end fine .state ≡ s) × (end fine .done ≡ 0)
-    by true e = absurd (true≢false (sym (cycles-ran store input n s) ∙ e))
-    by false e = (refl, refl)
-
--- The same of instructions.
-instructions-ran : (input : List ℕ) (n : ℕ) (s : Interpreter·State) → ranBy (instructions input n s .answer) ≡ true
-unfolding instructions ranBy
-instructions-ran input n s = T.answers (Interpreter·turn input) (λ k. ranBy k ≡ true) refl (λ s. by (instruct input s .full)) n s
-  where
-    by : (full : Bool) → ranBy (cond full 5 0) ≡ true
-    by true = refl
-    by false = refl
-
--- And of a run of them.
-refused-instructions : (input : List ℕ) (n : ℕ) (s : Interpreter·State) → ranBy (Interpreter·runs input n s .answer) ≡ false
-    → Interpreter·runs input n s ≡ record { state = s; done = 0; cycles = 0; answer = Interpreter·runs input n s .answer }
-unfolding Interpreter·runs Interpreter·begun
-refused-instructions input n s = by (eqb (Interpreter·refusal input s) 0)
-  where
-    end : Bool → Interpreter·Ended
-    end fine = cond fine (instructions input n s) (record { state = s; done = 0; cycles = 0; answer = Interpreter·refusal input s })
-
-    by : (fine : Bool) → ranBy (end fine .answer) ≡ false → end fine ≡ record { state = s; done = 0; cycles = 0; answer = end fine .answer }
-    by true e = absurd (true≢false (sym (instructions-ran input n s) ∙ e))
-    by false e = refl
-
--- Answers 1 to 4 are neither 0 nor 5.
-not-ran : (number : ℕ) → 1 ≤ number → number ≤ 4 → ranBy number ≡ false
-unfolding ranBy
-not-ran number low high =
-    let n0 : number ≡ 0 → ⊥ = λ z. omega arith in
-    let n5 : number ≡ 5 → ⊥ = λ z. omega arith in
-    rw (ne-eqb _ _ n0, ne-eqb _ _ n5)
+-- Such an answer leaves the caller's registers and state as found.
+is-refused : (number : ℕ) → 1 ≤ number → number ≤ 4 → refuses number ≡ true
+unfolding refuses
+is-refused number low high = rw (lt-ltb 0 number low, lt-ltb number 5 (omega arith))
 
 -- A half done above 2 and a line above 63 go as line 64.
 nowhere : (line half : ℕ) → (2 < half) ⊎ (64 ≤ line) → lineOf line half ≡ 64
@@ -101,17 +67,17 @@ module _ (store input : List ℕ) (n : ℕ) (registers state memory log : List �
 
   pub as-found : 1 ≤ call .answer → call .answer ≤ 4
       → call ≡ record { answer = call .answer; registers = registers; state = state; memory = memory; log = log; told = 0 ∷ getD (call .told) 1 0 ∷ [] }
-  unfolding engineCalled leaves
+  unfolding engineCalled leaves runs ended
   as-found low high =
       let s : State = stateOf (machineOf registers state) memory log in
-      let refused : ranBy (runs store input n s .said .number) ≡ false = not-ran _ low high in
-      let found = refused-run store input n s refused in
-      rw (refused, found .0, found .1)
+      let word : ℕ → ℕ = λ line. controlWord store line in
+      let found = refused-run (refusal store input s .number) (cycle store input) n s (λ s. cycle-kind 6 (fieldsOf (word (s .line))) input s) low high in
+      rw (is-refused _ low high, ap (λ (t : Turned State). t .state) found, ap (λ (t : Turned State). t .done) found)
 
   -- What has no place in the machine is refused by 3 where 1 and 2 do not come first.
   pub refused-by-3 : (length memory ≡ 4096) × (length store ≡ 64) → (getD state 0 0 ≤ length input) × (getD state 1 0 ≤ length log)
       → (2 < getD state 3 0) ⊎ (64 ≤ getD state 2 0) → call .answer ≡ 3
-  unfolding engineCalled leaves runs begun refusal machineOf
+  unfolding engineCalled leaves runs ended checked refusal machineOf
   refused-by-3 sizes places far =
       rw (eq-eqb _ _ (sizes .0), eq-eqb _ _ (sizes .1), le-ltb _ _ (places .0), le-ltb _ _ (places .1), nowhere _ _ far, last (ltb 4095 (getD registers 0 0)) (ltb 4095 (getD registers 2 0)) (ltb 4095 (getD registers 6 0)))
 
@@ -122,6 +88,7 @@ module _ (input : List ℕ) (n cp ac pp place count : ℕ) (memory log : List �
 
   pub interpreter-as-found : 1 ≤ ran .answer → ran .answer ≤ 3
       → ran ≡ record { answer = ran .answer; registers = cp ∷ ac ∷ pp ∷ []; state = place ∷ count ∷ []; memory = memory; log = log; told = 0 ∷ 0 ∷ [] }
-  unfolding interpreterCalled
+  unfolding interpreterCalled Interpreter·runs
   interpreter-as-found low high =
-      ap interpreter-leaves (refused-instructions input n (Interpreter·stateOf (cpuOf (cp ∷ ac ∷ pp ∷ []) (place ∷ count ∷ [])) memory log) (not-ran _ low (omega arith)))
+      let s : Interpreter·State = Interpreter·stateOf (cpuOf (cp ∷ ac ∷ pp ∷ []) (place ∷ count ∷ [])) memory log in
+      ap interpreter-leaves (refused-run (Interpreter·refusal input s) (instruct input) n s (instruct-kind input) low (omega arith))

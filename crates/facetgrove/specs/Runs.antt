@@ -5,9 +5,9 @@ use mathlib.Core.List.{List}
 use Rattle.engine.specs.Run.{runs, stateOf}
 use Rattle.instruction.specs.Instruction.{stateOf as Interpreter·stateOf}
 use Rattle.interpreter.specs.Run.{runs as Interpreter·runs}
-use Rattle.caller.specs.Called.{Called}
-use Rattle.caller.specs.Engine.{machineOf, leaves}
-use Rattle.caller.specs.Interpreter.{cpuOf, leaves as Interpreter·leaves}
+use Rattle.lists.specs.Called.{Called}
+use Rattle.lists.specs.Engine.{machineOf, leaves}
+use Rattle.lists.specs.Interpreter.{cpuOf, leaves as Interpreter·leaves}
 
 -- A run of n cycles.
 unfoldable pub engineCalled : List ℕ → List ℕ → ℕ → List ℕ → List ℕ → List ℕ → List ℕ → Called

@@ -20,9 +20,9 @@ pub extern "C" fn facetgrove_engine_run(
 ) -> u32
     ensures { λ r. ⌜ engineCalled (now (store .entry)) (now (input .entry)) cycles (now (registers .entry)) (now (state .entry)) (now (memory .entry)) (now (log .entry)) ≡ record { answer = r; registers = now (registers .exit); state = now (state .exit); memory = now (memory .exit); log = now (log .exit); told = now (told .exit) } ⌝ }
 {
-    let machine = caller::machine_of(*registers, *state);
+    let machine = lists::machine_of(*registers, *state);
     let ran = engine::run(store, memory, input, log, machine, cycles);
-    caller::hand_back_engine(ran, registers, state, told)
+    lists::hand_back_engine(ran, registers, state, told)
 }
 
 // A press on the operator's panel: the engine's run of 1.
@@ -38,10 +38,10 @@ pub extern "C" fn facetgrove_press(
 ) -> u32
     ensures { λ r. ⌜ engineCalled (now (store .entry)) (now (input .entry)) 1 (now (registers .entry)) (now (state .entry)) (now (memory .entry)) (now (log .entry)) ≡ record { answer = r; registers = now (registers .exit); state = now (state .exit); memory = now (memory .exit); log = now (log .exit); told = now (told .exit) } ⌝ }
 {
-    let machine = caller::machine_of(*registers, *state);
+    let machine = lists::machine_of(*registers, *state);
     let pressed = panel::pressed_through(machine, memory, input, log, store);
-    let ran = caller::counted(pressed);
-    caller::hand_back_engine(ran, registers, state, told)
+    let ran = lists::counted(pressed);
+    lists::hand_back_engine(ran, registers, state, told)
 }
 
 // A run of the interpreter.
@@ -57,9 +57,9 @@ pub extern "C" fn facetgrove_interpreter_run(
 ) -> u32
     ensures { λ r. ⌜ interpreterCalled (now (input .entry)) instructions (now (registers .entry)) (now (state .entry)) (now (memory .entry)) (now (log .entry)) ≡ record { answer = r; registers = now (registers .exit); state = now (state .exit); memory = now (memory .exit); log = now (log .exit); told = now (told .exit) } ⌝ }
 {
-    let cpu = caller::cpu_of(*registers, *state);
+    let cpu = lists::cpu_of(*registers, *state);
     let ran = interpreter::run(memory, input, log, cpu, instructions);
-    caller::hand_back_interpreter(ran, registers, state, told)
+    lists::hand_back_interpreter(ran, registers, state, told)
 }
 
 // Micro text to a control store.

@@ -108,7 +108,7 @@ run-only r r′ {memory} {memory′} {log} {log′} p q =
 -- Memory keeps its length and the words under its ports.
 pub record Spared (before later : List ℕ) : Type 0 where
   pub words : length later ≡ length before
-  pub ports : (place : ℕ) → 4092 ≤ place → getD later place 0 ≡ getD before place 0
+  pub ports : (x : ℕ) → 4092 ≤ x → getD later x 0 ≡ getD before x 0
 
 spared : (ss : List Sent) (at : Left) → Spared (at .memory) (after ss at .memory)
 spared ss at = record { words = bus.after-words ss at; ports = bus.after-ports ss at }

@@ -19,7 +19,7 @@ fn word_of_bytes(input: &[u8], at: usize) -> u32
 {
     let high = word::from_bytes(input[at], input[at + 1]);
     let low = word::from_bytes(input[at + 2], input[at + 3]);
-    word::place(high as u32, 16, low as u32)
+    word::put_below(high as u32, 16, low as u32)
 }
 
 // The control words of an input, into a store.

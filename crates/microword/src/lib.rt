@@ -2,7 +2,7 @@
 ghost use mathlib.Core.Path.{_≡_};
 ghost use mathlib.Core.Bool.{cond};
 ghost use Rattle.microword.specs.Microword.{fieldsOf, wordOf, badWord, normalFields, normalForm};
-use word::place;
+use word::put_below;
 use word::take;
 
 // The nine fields, highest first.
@@ -37,15 +37,15 @@ pub fn fields_of(word: u32) -> Fields
 pub fn word_of(fields: Fields) -> u32
     ensures { λ r. ⌜ r ≡ wordOf fields ⌝ }
 {
-    let a = place(0, 3, fields.a);
-    let b = place(a, 3, fields.b);
-    let s = place(b, 3, fields.s);
-    let hs = place(s, 1, fields.hs);
-    let f = place(hs, 3, fields.f);
-    let rd = place(f, 1, fields.rd);
-    let wr = place(rd, 1, fields.wr);
-    let sq = place(wr, 2, fields.sq);
-    place(sq, 6, fields.end)
+    let a = put_below(0, 3, fields.a);
+    let b = put_below(a, 3, fields.b);
+    let s = put_below(b, 3, fields.s);
+    let hs = put_below(s, 1, fields.hs);
+    let f = put_below(hs, 3, fields.f);
+    let rd = put_below(f, 1, fields.rd);
+    let wr = put_below(rd, 1, fields.wr);
+    let sq = put_below(wr, 2, fields.sq);
+    put_below(sq, 6, fields.end)
 }
 
 // More than 23 bits, or RD and WR both 1.

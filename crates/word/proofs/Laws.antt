@@ -1,4 +1,4 @@
--- Laws of what few bits keep, of fields, of sums and of bytes, each once, for every place and width.
+-- Laws of what few bits keep, of fields, of sums and of bytes, each once, for every bit and width.
 -- They rest on the library's laws of 2 ^ k and of masks; nothing is assumed.
 use Prim.Native.Nat.{ℕ, zero, suc, _+_, _-_, _*_, _/_, _%_, _^_, _≤_, _<_}
 use mathlib.Core.Path.{_≡_, sym, _∙_, ap}
@@ -62,19 +62,19 @@ module _ (bits a k v : ℕ) (small : a < 2 ^ bits) (fits : bits + k ≤ 32) wher
   pub placed-low : kept k (placed a k v) ≡ kept k v
   placed-low = rw room (low a k (kept-below k v))
 
-  pub placed-high : (place width : ℕ) → field (k + place) width (placed a k v) ≡ field place width a
-  placed-high place width = rw (← shr-shr (placed a k v) k place, room, high a k (kept-below k v))
+  pub placed-high : (low width : ℕ) → field (k + low) width (placed a k v) ≡ field low width a
+  placed-high low width = rw (← shr-shr (placed a k v) k low, room, high a k (kept-below k v))
 
 -- What is placed below does not move the fields above.
-pub joined-high : (fs : List Field) (bits a : ℕ) → a < 2 ^ bits → bits + total fs ≤ 32 → (place width : ℕ)
-    → field (total fs + place) width (joined a fs) ≡ field place width a
+pub joined-high : (fs : List Field) (bits a : ℕ) → a < 2 ^ bits → bits + total fs ≤ 32 → (low width : ℕ)
+    → field (total fs + low) width (joined a fs) ≡ field low width a
 unfolding joined total
-joined-high [] bits a small fits place width = rw zero-add
-joined-high (f ∷ fs) bits a small fits place width =
-    let e : f .width + total fs + place ≡ total fs + (f .width + place) = omega arith in
+joined-high [] bits a small fits low width = rw zero-add
+joined-high (f ∷ fs) bits a small fits low width =
+    let e : f .width + total fs + low ≡ total fs + (f .width + low) = omega arith in
     rw e
-    (joined-high fs (bits + f .width) (placed a (f .width) (f .value)) (placed-below bits a (f .width) (f .value) small (omega arith)) (omega arith) (f .width + place) width
-    ∙ placed-high bits a (f .width) (f .value) small (omega arith) place width)
+    (joined-high fs (bits + f .width) (placed a (f .width) (f .value)) (placed-below bits a (f .width) (f .value) small (omega arith)) (omega arith) (f .width + low) width
+    ∙ placed-high bits a (f .width) (f .value) small (omega arith) low width)
 
 -- Fields placed below a number of `bits` bits make one of as many bits more.
 pub joined-below : (fs : List Field) (bits a : ℕ) → a < 2 ^ bits → bits + total fs ≤ 32 → joined a fs < 2 ^ (bits + total fs)
@@ -87,7 +87,7 @@ joined-below (f ∷ fs) bits a small fits =
 abbrev pub empty : Field
 empty = record { width = 0; value = 0 }
 
--- Each field that was placed is found again at its place.
+-- Each field that was placed is found again where it was placed.
 pub joined-at : (fs : List Field) (i bits a : ℕ) → i < length fs → a < 2 ^ bits → bits + total fs ≤ 32
     → field (total (drop (suc i) fs)) (getD fs i empty .width) (joined a fs) ≡ kept (getD fs i empty .width) (getD fs i empty .value)
 unfolding joined total

@@ -7,9 +7,9 @@ use Rattle.word.specs.declared.Pair.{Pair}
 abbrev pub kept : ℕ → ℕ → ℕ
 kept width number = number % 2 ^ width
 
--- The field of `width` bits whose lowest is bit `place`.
+-- The field of `width` bits whose lowest is bit `low`.
 abbrev pub field : ℕ → ℕ → ℕ → ℕ
-field place width number = kept width (number / 2 ^ place)
+field low width number = kept width (number / 2 ^ low)
 
 -- `high` moved up by `width` bits in a number of 32, with the low bits of `value` in the room that this makes.
 abbrev pub placed : ℕ → ℕ → ℕ → ℕ

@@ -5,7 +5,7 @@ ghost use Rattle.word.specs.Number.{field, placed, kept, sum, difference
 // A line of the control store.
 pub struct Line(pub u8);
 
-// A word's place in main memory.
+// Where a word lies in main memory.
 pub struct Address(pub u16);
 
 // A word as two bytes, high byte first.
@@ -21,18 +21,18 @@ pub fn low_bits(number: u32, width: u32) -> u32
     number & ((1 << width) - 1)
 }
 
-// The field of `width` bits whose lowest is bit `place`.
-pub fn take(number: u32, place: u32, width: u32) -> u32
-    ensures { λ r. ⌜ r ≡ field place width number ⌝ }
+// The field of `width` bits whose lowest is bit `low`.
+pub fn take(number: u32, low: u32, width: u32) -> u32
+    ensures { λ r. ⌜ r ≡ field low width number ⌝ }
 {
-    if 32 <= place {
+    if 32 <= low {
         return 0;
     }
-    low_bits(number >> place, width)
+    low_bits(number >> low, width)
 }
 
 // `high` moved up by `width` bits, with the low bits of `value` in the room that this makes.
-pub fn place(high: u32, width: u32, value: u32) -> u32
+pub fn put_below(high: u32, width: u32, value: u32) -> u32
     ensures { λ r. ⌜ r ≡ placed high width value ⌝ }
 {
     if 32 <= width {
@@ -69,7 +69,7 @@ pub fn to_bytes(word: u16) -> Pair
 pub fn from_bytes(high: u8, low: u8) -> u16
     ensures { λ r. ⌜ r ≡ wordOf (record { 0 = high; 1 = low }) ⌝ }
 {
-    place(high as u32, 8, low as u32) as u16
+    put_below(high as u32, 8, low as u32) as u16
 }
 
 impl Line {

@@ -8,7 +8,7 @@ use Rattle.microword.specs.declared.Fields.{Fields}
 use Rattle.microword.specs.Microword.{fieldsOf}
 use Rattle.microword.proofs.Laws.{Within, fields-within}
 use Rattle.cycle.specs.Cycle.{result, stored, nextLine}
-use Rattle.cycle.specs.Standing.{beginning, beginningOn}
+use Rattle.cycle.specs.Code.Standing.{beginning, beginningOn}
 use Rattle.cycle.proofs.begin.Statement.{statement}
 use Rattle.cycle.proofs.begin.Tie as tie
 

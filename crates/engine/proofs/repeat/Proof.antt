@@ -12,7 +12,7 @@ use Rattle.turns.specs.Turns.{plus}
 use Rattle.turns.proofs.Laws.{plus-none}
 use Rattle.datapath.specs.declared.Half.{Half}
 use Rattle.cycle.specs.Cycle.{State}
-use Rattle.cycle.specs.Standing.{standing}
+use Rattle.cycle.specs.Code.Standing.{standing}
 use Rattle.engine.specs.Run.{cycles, ended}
 use Rattle.engine.proofs.Laws.{goes-on, stops, ends}
 use Rattle.engine.proofs.repeat.Statement.{statement}

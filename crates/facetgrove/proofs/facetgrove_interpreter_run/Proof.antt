@@ -1,7 +1,7 @@
 -- `facetgrove_interpreter_run`: the interpreter's promise, spread over the caller's lists.
 use borrow.Author.Needs.{needs}
 use mathlib.Core.Path.{ap, _∙_}
-use Rattle.caller.specs.Interpreter.{leaves}
+use Rattle.lists.specs.Interpreter.{leaves}
 use Rattle.facetgrove.specs.Runs.{interpreterCalled}
 use Rattle.facetgrove.proofs.facetgrove_interpreter_run.Statement.{statement}
 use Rattle.facetgrove.proofs.facetgrove_interpreter_run.Tie as tie

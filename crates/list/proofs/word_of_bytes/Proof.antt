@@ -33,19 +33,19 @@ shared-slice-read-from-bytes-4 c = search needs
 from-bytes-requires-2 : tie.Need-from-bytes-requires-2
 from-bytes-requires-2 c κs = search needs
 
-cast-place : tie.Need-cast-place
-cast-place c = search needs
+cast-put-below : tie.Need-cast-put-below
+cast-put-below c = search needs
 
-cast-place-2 : tie.Need-cast-place-2
-cast-place-2 c = search needs
+cast-put-below-2 : tie.Need-cast-put-below-2
+cast-put-below-2 c = search needs
 
-place-requires : tie.Need-place-requires
-place-requires c κs = search needs
+put-below-requires : tie.Need-put-below-requires
+put-below-requires c κs = search needs
 
 returns : tie.Need-returns
 returns c = let s = c .before .before .before .before .before .before .before .before in
-    word-next (now (s .args .input)) (s .args .at) (c .before .before .before .before .from-bytes .result) (c .before .from-bytes2 .result) (c .place .result) (s .pre)
-    (c .before .before .before .before .from-bytes .ensures) (c .before .from-bytes2 .ensures) (omega (arith, c .place .ensures, c .before .before .before .before .from-bytes .ok, c .before .from-bytes2 .ok))
+    word-next (now (s .args .input)) (s .args .at) (c .before .before .before .before .from-bytes .result) (c .before .from-bytes2 .result) (c .put-below .result) (s .pre)
+    (c .before .before .before .before .from-bytes .ensures) (c .before .from-bytes2 .ensures) (omega (arith, c .put-below .ensures, c .before .before .before .before .from-bytes .ok, c .before .from-bytes2 .ok))
 
 pub word-of-bytes-spec : {M : Type 1} → statement M
 word-of-bytes-spec =
@@ -60,7 +60,7 @@ word-of-bytes-spec =
     add-from-bytes-3
     shared-slice-read-from-bytes-4
     from-bytes-requires-2
-    cast-place
-    cast-place-2
-    place-requires
+    cast-put-below
+    cast-put-below-2
+    put-below-requires
     returns)

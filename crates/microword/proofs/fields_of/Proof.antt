@@ -1,4 +1,4 @@
--- `fields_of` takes each field at its place.
+-- `fields_of` takes each field where it lies.
 use borrow.Author.Needs.{needs}
 use Rattle.microword.specs.Microword.{fieldsOf}
 use Rattle.microword.proofs.fields_of.Statement.{statement}

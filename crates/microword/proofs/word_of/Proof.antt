@@ -5,48 +5,48 @@ use Rattle.microword.specs.Microword.{wordOf}
 use Rattle.microword.proofs.word_of.Statement.{statement}
 use Rattle.microword.proofs.word_of.Tie as tie
 
-place-requires : tie.Need-place-requires
-place-requires c κs = search needs
+put-below-requires : tie.Need-put-below-requires
+put-below-requires c κs = search needs
 
-place-requires-2 : tie.Need-place-requires-2
-place-requires-2 c κs = search needs
+put-below-requires-2 : tie.Need-put-below-requires-2
+put-below-requires-2 c κs = search needs
 
-place-requires-3 : tie.Need-place-requires-3
-place-requires-3 c κs = search needs
+put-below-requires-3 : tie.Need-put-below-requires-3
+put-below-requires-3 c κs = search needs
 
-place-requires-4 : tie.Need-place-requires-4
-place-requires-4 c κs = search needs
+put-below-requires-4 : tie.Need-put-below-requires-4
+put-below-requires-4 c κs = search needs
 
-place-requires-5 : tie.Need-place-requires-5
-place-requires-5 c κs = search needs
+put-below-requires-5 : tie.Need-put-below-requires-5
+put-below-requires-5 c κs = search needs
 
-place-requires-6 : tie.Need-place-requires-6
-place-requires-6 c κs = search needs
+put-below-requires-6 : tie.Need-put-below-requires-6
+put-below-requires-6 c κs = search needs
 
-place-requires-7 : tie.Need-place-requires-7
-place-requires-7 c κs = search needs
+put-below-requires-7 : tie.Need-put-below-requires-7
+put-below-requires-7 c κs = search needs
 
-place-requires-8 : tie.Need-place-requires-8
-place-requires-8 c κs = search needs
+put-below-requires-8 : tie.Need-put-below-requires-8
+put-below-requires-8 c κs = search needs
 
-place-requires-9 : tie.Need-place-requires-9
-place-requires-9 c κs = search needs
+put-below-requires-9 : tie.Need-put-below-requires-9
+put-below-requires-9 c κs = search needs
 
 returns : tie.Need-returns
 unfolding wordOf joined
-returns c = simp (c .before .before .before .before .before .before .before .before .place .ensures, c .before .before .before .before .before .before .before .place2 .ensures, c .before .before .before .before .before .before .place3 .ensures, c .before .before .before .before .before .place4 .ensures, c .before .before .before .before .place5 .ensures, c .before .before .before .place6 .ensures, c .before .before .place7 .ensures, c .before .place8 .ensures, c .place9 .ensures)
+returns c = simp (c .before .before .before .before .before .before .before .before .put-below .ensures, c .before .before .before .before .before .before .before .put-below2 .ensures, c .before .before .before .before .before .before .put-below3 .ensures, c .before .before .before .before .before .put-below4 .ensures, c .before .before .before .before .put-below5 .ensures, c .before .before .before .put-below6 .ensures, c .before .before .put-below7 .ensures, c .before .put-below8 .ensures, c .put-below9 .ensures)
 
 pub word-of-spec : {M : Type 1} → statement M
 word-of-spec =
     tie.close
     (tie.spec
-    place-requires
-    place-requires-2
-    place-requires-3
-    place-requires-4
-    place-requires-5
-    place-requires-6
-    place-requires-7
-    place-requires-8
-    place-requires-9
+    put-below-requires
+    put-below-requires-2
+    put-below-requires-3
+    put-below-requires-4
+    put-below-requires-5
+    put-below-requires-6
+    put-below-requires-7
+    put-below-requires-8
+    put-below-requires-9
     returns)

@@ -9,7 +9,7 @@ use Rattle.word.proofs.take.Statement.{statement}
 use Rattle.word.proofs.take.Tie as tie
 
 returns : tie.Need-returns
-returns c = let h : c .before .args .number < 2 ^ (c .before .args .place) = omega (arith, pow-mono (c .if1 .taken)) in
+returns c = let h : c .before .args .number < 2 ^ (c .before .args .low) = omega (arith, pow-mono (c .if1 .taken)) in
     rw (div-eq-of-lt h) (sym (zero-mod _))
 
 shr-low-bits : tie.Need-shr-low-bits

@@ -1,4 +1,4 @@
--- The machine taken apart for the code: what a cycle finds and what it leaves, each in a variable of its own.
+-- Mirrors the code: the machine taken apart, what a cycle finds and what it leaves each in a variable of its own.
 use mathlib.Core.List.{List}
 use Prim.Native.Nat.{ℕ}
 use mathlib.Core.Bool.{cond}
@@ -49,5 +49,5 @@ beginningOn bits m line registers =
 abbrev pub beginning : ℕ → ℕ → List ℕ → Beginning
 beginning word line registers = beginningOn 6 (fieldsOf word) line registers
 
-abbrev pub begun : Begun → List ℕ → Beginning
-begun b registers = record { fields = b .m; next = b .next .0; stood = b .old; registers = registers }
+abbrev pub began : Begun → List ℕ → Beginning
+began b registers = record { fields = b .m; next = b .next .0; stood = b .old; registers = registers }
