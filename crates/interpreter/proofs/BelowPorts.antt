@@ -97,6 +97,14 @@ module _ (own : Registers) (memory : List ℕ) (input : List ℕ) (b : Beside) w
       let word : fetched input (stateWith own memory b) ≡ getD memory (own .cp .0) 0 = ap (λ (f : Fetched). f .word) got in
       rw (got, word, ec, ex, eo)
 
+-- LOAD, ADDD and SUBD and their like: AC becomes what f makes of memory's word.
+pub gained : (own : Registers) (memory : List ℕ) (cycles address : ℕ) (f : ℕ → ℕ) (word ac : ℕ) (p : Passed) → address < 4092 → word ≡ getD memory address 0 → ac ≡ f word
+    → p ≡ record { registers = record { cp = own .cp; ac = ac; pp = own .pp }; met = false; cycles = cycles }
+    → Plain (λ input b. gains cycles input (stateWith own memory b) address f) memory p memory
+gained own memory cycles address f word ac p h w a e =
+    passes (λ input b. gains cycles input (stateWith own memory b) address f) memory memory (record { cp = own .cp; ac = ac; pp = own .pp }) cycles p e
+    (rw (a, w) (λ input b. gains-below own memory input b cycles address f h))
+
 -- An instruction below the ports is done where its action is.
 pub carries : (own own′ : Registers) (code x : ℕ) (memory : List ℕ) (p : Passed) (left : List ℕ) → own .cp .0 < 4092
     → code ≡ field 12 4 (getD memory (own .cp .0) 0) → x ≡ kept 12 (getD memory (own .cp .0) 0)

@@ -58,11 +58,15 @@ element-copy-out-old : tie.Need-element-copy-out-old
 element-copy-out-old c = within _ (c .before .before .before .before .before .before .before .fields-of .ensures) .s
 
 store-value-requires : tie.Need-store-value-requires
-store-value-requires c κs = within _ (c .before .before .before .before .before .before .before .before .before .fields-of .ensures) .s
+store-value-requires c κs =
+    let back = c .before .before .before .before .before .before .before in
+    within _ (back .before .before .fields-of .ensures) .s
 
 returns : tie.Need-returns
 unfolding result
-returns c = begins _ _ _ (c .before .before .before .before .before .before .before .before .before .before .fields-of .ensures) (c .before .before .before .before .compute .ensures) (c .before .before .before .next-line .ensures) (c .store-value .ensures)
+returns c =
+    let back = c .before .before .before .before .before .before .before in
+    begins _ _ _ (back .before .before .before .fields-of .ensures) (c .before .before .before .before .compute .ensures) (c .before .before .before .next-line .ensures) (c .store-value .ensures)
 
 pub begin-spec : {M : Type 1} → statement M
 begin-spec =

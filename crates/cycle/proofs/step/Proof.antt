@@ -38,9 +38,9 @@ same-length-2 c = search needs
 
 returns-2 : tie.Need-returns-2
 returns-2 c =
-    let back = c .before .before .before .before .before .before .before .before in
-    let further = back .before .before .before .before .before .before .before .before in
-    rw (c .arrive .ensures) (carried _ _ _ _ (further .before .before .before .before .begin .ensures) (c .before .before .before .before .before .before .before .before .transfer .result) (c .before .before .before .before .before .before .before .before .transfer .ensures) (sym (c .before .before .before .goes-on .ensures) ∙ c .before .before .if2 .taken))
+    let back = c .before .before .before .before .before .before .before in
+    let further = back .before .before .before .before .before .before .before in
+    rw (c .arrive .ensures) (carried _ _ _ _ (further .before .before .before .before .before .before .begin .ensures) (back .before .transfer .result) (back .before .transfer .ensures) (sym (c .before .before .before .goes-on .ensures) ∙ c .before .before .if2 .taken))
 
 cast-s : tie.Need-cast-s
 cast-s c = search needs
@@ -50,9 +50,9 @@ mul-registers c = search needs
 
 element-write-registers : tie.Need-element-write-registers
 element-write-registers c =
-    let back = c .before .before .before .before .before .before .before .before in
-    let further = back .before .before .before .before .before .before .before .before in
-    small _ _ _ (further .before .before .before .begin .ensures) .s
+    let back = c .before .before .before .before .before .before .before in
+    let further = back .before .before .before .before .before .before .before in
+    small _ _ _ (further .before .before .before .before .before .begin .ensures) .s
 
 same-length-3 : tie.Need-same-length-3
 same-length-3 c = search needs
@@ -62,9 +62,9 @@ same-length-4 c = search needs
 
 returns-3 : tie.Need-returns-3
 returns-3 c =
-    let back = c .before .before .before .before .before .before .before .before in
-    let further = back .before .before .before .before .before .before .before .before in
-    refused _ _ _ _ (further .before .before .before .begin .ensures) (c .before .before .before .before .before .before .before .transfer .result) (c .before .before .before .before .before .before .before .transfer .ensures) (sym (c .before .before .goes-on .ensures) ∙ c .before .if2 .left)
+    let back = c .before .before .before .before .before .before .before in
+    let further = back .before .before .before .before .before .before .before in
+    refused _ _ _ _ (further .before .before .before .before .before .begin .ensures) (c .before .before .before .before .before .before .before .transfer .result) (c .before .before .before .before .before .before .before .transfer .ensures) (sym (c .before .before .goes-on .ensures) ∙ c .before .if2 .left)
 
 pub step-spec : {M : Type 1} → statement M
 step-spec =

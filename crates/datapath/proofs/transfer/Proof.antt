@@ -28,7 +28,9 @@ same-length-4 c = search needs
 
 returns-2 : tie.Need-returns-2
 unfolding transferred waits
-returns-2 c = simp (c .before .before .before .before .before .before .before .before .if1 .left, c .before .before .before .before .before .before .before .if2 .taken, c .before .before .before .before .write-cycle .ensures)
+returns-2 c =
+    let back = c .before .before .before .before .before .before .before in
+    simp (back .before .if1 .left, c .before .before .before .before .before .before .before .if2 .taken, c .before .before .before .before .write-cycle .ensures)
 
 left-requires : tie.Need-left-requires
 left-requires c κs = search needs

@@ -43,8 +43,8 @@ is-outside-requires-3 c κs = search needs
 returns-3 : tie.Need-returns-3
 unfolding refusal
 returns-3 c =
-    let back = c .before .before .before .before .before .before .before .before in
-    rw (← back .before .before .before .is-wrong-memory .ensures, ← back .before .before .is-wrong .ensures, back .before .if1 .left, ← c .before .before .before .before .before .before .before .before .is-past-end .ensures, c .before .before .before .before .before .before .before .if2 .left, ← c .before .before .before .before .is-outside .ensures, ← c .before .before .before .is-outside2 .ensures, ← c .before .before .is-outside3 .ensures, c .if3 .taken)
+    let back = c .before .before .before .before .before .before .before in
+    rw (← back .before .before .before .before .is-wrong-memory .ensures, ← back .before .before .before .is-wrong .ensures, back .before .before .if1 .left, ← back .before .is-past-end .ensures, c .before .before .before .before .before .before .before .if2 .left, ← c .before .before .before .before .is-outside .ensures, ← c .before .before .before .is-outside2 .ensures, ← c .before .before .is-outside3 .ensures, c .if3 .taken)
 
 first-bad-requires : tie.Need-first-bad-requires
 first-bad-requires c κs = search needs
@@ -55,14 +55,14 @@ cast-t26 c = search needs
 returns-4 : tie.Need-returns-4
 unfolding refusal
 returns-4 c =
-    let back = c .before .before .before .before .before .before .before .before in
-    rw (← back .before .before .before .before .before .is-wrong-memory .ensures, ← back .before .before .before .before .is-wrong .ensures, back .before .before .before .if1 .left, ← back .before .before .is-past-end .ensures, back .before .if2 .left, ← c .before .before .before .before .before .before .is-outside .ensures, ← c .before .before .before .before .before .is-outside2 .ensures, ← c .before .before .before .before .is-outside3 .ensures, c .before .before .if3 .left, ← c .before .first-bad .ensures, lt-ltb _ _ (c .if4 .taken))
+    let back = c .before .before .before .before .before .before .before in
+    rw (← back .before .before .before .before .before .before .is-wrong-memory .ensures, ← back .before .before .before .before .before .is-wrong .ensures, back .before .before .before .before .if1 .left, ← back .before .before .before .is-past-end .ensures, back .before .before .if2 .left, ← c .before .before .before .before .before .before .is-outside .ensures, ← c .before .before .before .before .before .is-outside2 .ensures, ← c .before .before .before .before .is-outside3 .ensures, c .before .before .if3 .left, ← c .before .first-bad .ensures, lt-ltb _ _ (c .if4 .taken))
 
 returns-5 : tie.Need-returns-5
 unfolding refusal
 returns-5 c =
-    let back = c .before .before .before .before .before .before .before .before in
-    rw (← back .before .before .before .before .before .is-wrong-memory .ensures, ← back .before .before .before .before .is-wrong .ensures, back .before .before .before .if1 .left, ← back .before .before .is-past-end .ensures, back .before .if2 .left, ← c .before .before .before .before .before .before .is-outside .ensures, ← c .before .before .before .before .before .is-outside2 .ensures, ← c .before .before .before .before .is-outside3 .ensures, c .before .before .if3 .left, ← c .before .first-bad .ensures, le-ltb _ _ (c .if4 .left))
+    let back = c .before .before .before .before .before .before .before in
+    rw (← back .before .before .before .before .before .before .is-wrong-memory .ensures, ← back .before .before .before .before .before .is-wrong .ensures, back .before .before .before .before .if1 .left, ← back .before .before .before .is-past-end .ensures, back .before .before .if2 .left, ← c .before .before .before .before .before .before .is-outside .ensures, ← c .before .before .before .before .before .is-outside2 .ensures, ← c .before .before .before .before .is-outside3 .ensures, c .before .before .if3 .left, ← c .before .first-bad .ensures, le-ltb _ _ (c .if4 .left))
 
 pub check-spec : {M : Type 1} → statement M
 check-spec =

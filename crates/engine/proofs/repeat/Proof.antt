@@ -49,18 +49,18 @@ report-requires c κs = search needs
 
 same-length : tie.Need-same-length Inv-loop μ-loop
 same-length c =
-    let back = c .before .before .before .before .before .before .before .before in
-    c .before .before .before .before .before .before .before .before .step .kept .1 .0 ∙ back .before .before .before .before .before .before .loop .inv .words
+    let back = c .before .before .before .before .before .before .before in
+    back .before .step .kept .1 .0 ∙ back .before .before .before .before .before .before .before .loop .inv .words
 
 same-length-2 : tie.Need-same-length-2 Inv-loop μ-loop
 same-length-2 c =
-    let back = c .before .before .before .before .before .before .before .before in
-    c .before .before .before .before .before .before .before .before .step .kept .1 .1 .1 .0 ∙ back .before .before .before .before .before .before .loop .inv .room
+    let back = c .before .before .before .before .before .before .before in
+    back .before .step .kept .1 .1 .1 .0 ∙ back .before .before .before .before .before .before .before .loop .inv .room
 
 returns : tie.Need-returns Inv-loop μ-loop
 returns c =
-    let back = c .before .before .before .before .before .before .before .before in
-    rw (c .report .ensures) (back .before .before .before .before .before .before .loop .inv .same ∙ stops _ _ _ (back .before .before .before .before .before .loop-test .taken) (c .before .before .before .before .before .before .before .before .step .ensures) (back .before .before .before .before .word-at .ensures) (sym (c .before .before .goes-on .ensures) ∙ not-true _ (c .before .if1 .taken)))
+    let back = c .before .before .before .before .before .before .before in
+    rw (c .report .ensures) (back .before .before .before .before .before .before .before .loop .inv .same ∙ stops _ _ _ (back .before .before .before .before .before .before .loop-test .taken) (back .before .step .ensures) (back .before .before .before .before .before .word-at .ensures) (sym (c .before .before .goes-on .ensures) ∙ not-true _ (c .before .if1 .taken)))
 
 add-done : tie.Need-add-done Inv-loop μ-loop
 add-done c = omega arith
@@ -70,12 +70,12 @@ loop-less c = omega arith
 
 loop-again : tie.Need-loop-again Inv-loop μ-loop
 loop-again c =
-    let back = c .before .before .before .before .before .before .before .before in
+    let back = c .before .before .before .before .before .before .before in
     record {
       within = omega arith;
-      words = c .before .before .before .before .before .before .before .step .kept .1 .0 ∙ back .before .before .before .before .before .loop .inv .words;
-      room = c .before .before .before .before .before .before .before .step .kept .1 .1 .1 .0 ∙ back .before .before .before .before .before .loop .inv .room;
-      same = back .before .before .before .before .before .loop .inv .same ∙ goes-on _ _ _ (back .before .before .before .before .loop-test .taken) (c .before .before .before .before .before .before .before .step .ensures) (back .before .before .before .word-at .ensures) (sym (c .before .goes-on .ensures) ∙ not-false _ (c .if1 .left));
+      words = c .before .before .before .before .before .before .before .step .kept .1 .0 ∙ back .before .before .before .before .before .before .loop .inv .words;
+      room = c .before .before .before .before .before .before .before .step .kept .1 .1 .1 .0 ∙ back .before .before .before .before .before .before .loop .inv .room;
+      same = back .before .before .before .before .before .before .loop .inv .same ∙ goes-on _ _ _ (back .before .before .before .before .before .loop-test .taken) (c .before .before .before .before .before .before .before .step .ensures) (back .before .before .before .before .word-at .ensures) (sym (c .before .goes-on .ensures) ∙ not-false _ (c .if1 .left));
     }
 
 report-requires-2 : tie.Need-report-requires-2 Inv-loop μ-loop

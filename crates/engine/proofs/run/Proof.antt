@@ -31,8 +31,8 @@ same-length-4 c = search needs
 
 returns-2 : tie.Need-returns-2
 returns-2 c =
-    let back = c .before .before .before .before .before .before .before .before in
-    lets-run (back .before .check .result) _ _ _ _ (back .before .check .ensures) (sym (c .before .before .before .before .before .before .before .before .number .ensures) ∙ c .before .before .before .before .before .before .before .if1 .left) (c .before .before .before .before .repeat .ensures)
+    let back = c .before .before .before .before .before .before .before in
+    lets-run (back .before .before .check .result) _ _ _ _ (back .before .before .check .ensures) (sym (back .before .number .ensures) ∙ c .before .before .before .before .before .before .before .if1 .left) (c .before .before .before .before .repeat .ensures)
 
 pub run-spec : {M : Type 1} → statement M
 run-spec =

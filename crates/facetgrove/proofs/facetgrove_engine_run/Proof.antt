@@ -22,8 +22,9 @@ same-length-2 c = search needs
 returns : tie.Need-returns
 unfolding engineCalled
 returns c =
-    let begins = c .before .before .before .before .before .before .before .before .before .before .before .machine-of .ensures in
-    rw (← begins, c .before .before .before .before .before .before .before .before .run .ensures) (c .hand-back-engine .ensures _ _)
+    let back = c .before .before .before .before .before .before .before in
+    let begins = back .before .before .before .before .machine-of .ensures in
+    rw (← begins, back .before .run .ensures) (c .hand-back-engine .ensures _ _)
 
 pub facetgrove-engine-run-spec : {M : Type 1} → statement M
 facetgrove-engine-run-spec =

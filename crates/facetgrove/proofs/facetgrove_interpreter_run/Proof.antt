@@ -24,8 +24,9 @@ same-length-2 c = search needs
 returns : tie.Need-returns
 unfolding interpreterCalled
 returns c =
-    let begins = c .before .before .before .before .before .before .before .before .before .before .before .cpu-of .ensures in
-    ap leaves (rw begins at (c .before .before .before .before .before .before .before .before .run .ensures)) ∙ c .hand-back-interpreter .ensures _ _
+    let back = c .before .before .before .before .before .before .before in
+    let begins = back .before .before .before .before .cpu-of .ensures in
+    ap leaves (rw begins at (back .before .run .ensures)) ∙ c .hand-back-interpreter .ensures _ _
 
 pub facetgrove-interpreter-run-spec : {M : Type 1} → statement M
 facetgrove-interpreter-run-spec =

@@ -26,8 +26,9 @@ same-length-2 c = search needs
 returns : tie.Need-returns
 unfolding engineCalled
 returns c =
-    let begins = c .before .before .before .before .before .before .before .before .before .before .before .before .machine-of .ensures in
-    let ran = pressed _ _ _ _ _ _ (c .before .before .before .before .before .before .before .before .before .pressed-through .ensures) (c .before .before .before .before .counted .ensures) in
+    let back = c .before .before .before .before .before .before .before in
+    let begins = back .before .before .before .before .before .machine-of .ensures in
+    let ran = pressed _ _ _ _ _ _ (back .before .before .pressed-through .ensures) (c .before .before .before .before .counted .ensures) in
     rw (← begins, ran) (c .hand-back-engine .ensures _ _)
 
 pub facetgrove-press-spec : {M : Type 1} → statement M

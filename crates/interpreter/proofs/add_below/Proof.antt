@@ -1,5 +1,5 @@
 -- `add_below` leaves a port alone; below the ports memory's word is added to AC.
-use Rattle.interpreter.proofs.BelowPorts.{stays, passes, gains-below}
+use Rattle.interpreter.proofs.BelowPorts.{stays, gained}
 use Rattle.word.specs.Number.{sum}
 use borrow.Author.Needs.{needs}
 use Rattle.interpreter.proofs.add_below.Statement.{statement}
@@ -21,7 +21,7 @@ pass-requires : tie.Need-pass-requires
 pass-requires c κs = search needs
 
 returns-2 : tie.Need-returns-2
-returns-2 c = passes _ _ _ _ _ _ (c .pass .ensures) (rw (c .before .add .ensures, c .before .before .word-below .ensures) (λ input b. gains-below _ _ input b _ _ (λ m. sum 16 _ m) (c .before .before .before .before .before .if1 .left)))
+returns-2 c = gained _ _ _ _ (λ m. sum 16 _ m) _ _ _ (c .before .before .before .before .before .if1 .left) (c .before .before .word-below .ensures) (c .before .add .ensures) (c .pass .ensures)
 
 pub add-below-spec : {M : Type 1} → statement M
 add-below-spec =

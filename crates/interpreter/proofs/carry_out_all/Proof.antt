@@ -47,78 +47,80 @@ goes-on-requires c κs = search needs
 
 sub-t21 : tie.Need-sub-t21 Inv-loop μ-loop
 sub-t21 c =
-    let back = c .before .before .before .before .before .before .before .before in
-    omega (arith, back .before .before .before .loop .inv .within)
+    let back = c .before .before .before .before .before .before .before in
+    omega (arith, back .before .before .before .before .loop .inv .within)
 
 same-length : tie.Need-same-length Inv-loop μ-loop
 same-length c =
-    let back = c .before .before .before .before .before .before .before .before in
-    c .before .before .before .before .before .before .before .carry-out .kept .0 ∙ back .before .before .before .loop .inv .words ∙ back .before .before .before .before .before .before .before .pass-below .ensures .words
+    let back = c .before .before .before .before .before .before .before in
+    let further = back .before .before .before .before .before .before .before in
+    c .before .before .before .before .before .before .before .carry-out .kept .0 ∙ back .before .before .before .before .loop .inv .words ∙ further .before .pass-below .ensures .words
 
 same-length-2 : tie.Need-same-length-2 Inv-loop μ-loop
 same-length-2 c =
-    let back = c .before .before .before .before .before .before .before .before in
-    c .before .before .before .before .before .before .before .carry-out .kept .1 .1 .0 ∙ back .before .before .before .loop .inv .room
+    let back = c .before .before .before .before .before .before .before in
+    c .before .before .before .before .before .before .before .carry-out .kept .1 .1 .0 ∙ back .before .before .before .before .loop .inv .room
 
 returns : tie.Need-returns Inv-loop μ-loop
 returns c =
-    let back = c .before .before .before .before .before .before .before .before in
-    back .before .before .before .before .before .before .before .pass-below .ensures .same _ _ ∙ back .before .before .before .loop .inv .same ∙ stops _ _ _ _ _ _ (back .before .before .loop-test .taken) (c .before .before .before .before .before .before .before .carry-out .ensures) (sym (c .before .goes-on .ensures) ∙ not-true _ (c .if1 .taken))
+    let back = c .before .before .before .before .before .before .before in
+    let further = back .before .before .before .before .before .before .before in
+    further .before .pass-below .ensures .same _ _ ∙ back .before .before .before .before .loop .inv .same ∙ stops _ _ _ _ _ _ (back .before .before .before .loop-test .taken) (c .before .before .before .before .before .before .before .carry-out .ensures) (sym (c .before .goes-on .ensures) ∙ not-true _ (c .if1 .taken))
 
 sub-pass-below : tie.Need-sub-pass-below Inv-loop μ-loop
 sub-pass-below c =
-    let back = c .before .before .before .before .before .before .before .before in
-    omega (arith, back .before .before .before .loop-test .taken)
+    let back = c .before .before .before .before .before .before .before in
+    omega (arith, back .before .before .before .before .loop-test .taken)
 
 pass-below-requires-2 : tie.Need-pass-below-requires-2 Inv-loop μ-loop
 pass-below-requires-2 c κs =
-    let back = c .before .before .before .before .before .before .before .before in
-    let further = back .before .before .before .before .before .before .before .before in
-    c .before .before .before .before .before .before .before .before .carry-out .kept .0 ∙ back .before .before .before .before .loop .inv .words ∙ back .before .before .before .before .before .before .before .before .pass-below .ensures .words ∙ further .before .before .before .before .before .pre
+    let back = c .before .before .before .before .before .before .before in
+    let further = back .before .before .before .before .before .before .before in
+    back .before .carry-out .kept .0 ∙ back .before .before .before .before .before .loop .inv .words ∙ further .before .before .pass-below .ensures .words ∙ further .before .before .before .before .before .before .before .pre
 
 add-cycles : tie.Need-add-cycles Inv-loop μ-loop
 add-cycles c =
-    let back = c .before .before .before .before .before .before .before .before in
-    let further = back .before .before .before .before .before .before .before .before in
-    let furthest = further .before .before .before .before .before .before .before .before in
-    let least : back .before .before .before .before .before .before .carry-out .result .cycles ≤ 11 = paid _ _ _ (back .before .before .before .before .before .before .carry-out .ensures) in
-    let inv = further .before .before .loop .inv in
+    let back = c .before .before .before .before .before .before .before in
+    let further = back .before .before .before .before .before .before .before in
+    let furthest = further .before .before .before .before .before .before .before in
+    let least : back .before .before .before .before .before .before .before .carry-out .result .cycles ≤ 11 = paid _ _ _ (back .before .before .before .before .before .before .before .carry-out .ensures) in
+    let inv = further .before .before .before .before .loop .inv in
     let next = c .before .before .before .before .before .pass-below2 .ensures in
-    let more = further .before .loop-test .taken in
-    omega (arith, least, inv .spent, inv .within, next .spent, next .within, more, furthest .before .before .before .fits .n)
+    let more = further .before .before .before .loop-test .taken in
+    omega (arith, least, inv .spent, inv .within, next .spent, next .within, more, furthest .before .before .before .before .before .before .fits .n)
 
 add-cycles-2 : tie.Need-add-cycles-2 Inv-loop μ-loop
 add-cycles-2 c =
-    let back = c .before .before .before .before .before .before .before .before in
-    let further = back .before .before .before .before .before .before .before .before in
-    let furthest = further .before .before .before .before .before .before .before .before in
-    let least : back .before .before .before .before .before .before .carry-out .result .cycles ≤ 11 = paid _ _ _ (back .before .before .before .before .before .before .carry-out .ensures) in
-    let inv = further .before .before .loop .inv in
+    let back = c .before .before .before .before .before .before .before in
+    let further = back .before .before .before .before .before .before .before in
+    let furthest = further .before .before .before .before .before .before .before in
+    let least : back .before .before .before .before .before .before .before .carry-out .result .cycles ≤ 11 = paid _ _ _ (back .before .before .before .before .before .before .before .carry-out .ensures) in
+    let inv = further .before .before .before .before .loop .inv in
     let next = c .before .before .before .before .before .pass-below2 .ensures in
-    let more = further .before .loop-test .taken in
-    omega (arith, least, inv .spent, inv .within, next .spent, next .within, more, furthest .before .before .before .fits .n)
+    let more = further .before .before .before .loop-test .taken in
+    omega (arith, least, inv .spent, inv .within, next .spent, next .within, more, furthest .before .before .before .before .before .before .fits .n)
 
 loop-less : tie.Need-loop-less Inv-loop μ-loop
 loop-less c =
-    let back = c .before .before .before .before .before .before .before .before in
-    let further = back .before .before .before .before .before .before .before .before in
-    let next = c .before .before .before .before .before .pass-below2 .ensures in omega (arith, next .within, further .before .loop-test .taken)
+    let back = c .before .before .before .before .before .before .before in
+    let further = back .before .before .before .before .before .before .before in
+    let next = c .before .before .before .before .before .pass-below2 .ensures in omega (arith, next .within, further .before .before .before .loop-test .taken)
 
 loop-again : tie.Need-loop-again Inv-loop μ-loop
 loop-again c =
-    let back = c .before .before .before .before .before .before .before .before in
-    let further = back .before .before .before .before .before .before .before .before in
-    let least : back .before .before .before .before .before .before .carry-out .result .cycles ≤ 11 = paid _ _ _ (back .before .before .before .before .before .before .carry-out .ensures) in
-    let inv = further .before .before .loop .inv in
+    let back = c .before .before .before .before .before .before .before in
+    let further = back .before .before .before .before .before .before .before in
+    let least : back .before .before .before .before .before .before .before .carry-out .result .cycles ≤ 11 = paid _ _ _ (back .before .before .before .before .before .before .before .carry-out .ensures) in
+    let inv = further .before .before .before .before .loop .inv in
     let next = c .before .before .before .before .before .pass-below2 .ensures in
-    let more = further .before .loop-test .taken in
-    let going : eqb (number (back .before .before .before .before .before .before .carry-out .result .stop)) 0 ≡ true = sym (c .before .before .before .before .before .before .before .before .goes-on .ensures) ∙ not-false _ (c .before .before .before .before .before .before .before .if1 .left) in
+    let more = further .before .before .before .loop-test .taken in
+    let going : eqb (number (back .before .before .before .before .before .before .before .carry-out .result .stop)) 0 ≡ true = sym (back .before .goes-on .ensures) ∙ not-false _ (c .before .before .before .before .before .before .before .if1 .left) in
     record {
       within = omega (arith, inv .within, next .within);
       spent = omega (arith, least, inv .spent, inv .within, next .spent, next .within, more);
-      words = next .words ∙ back .before .before .before .before .before .before .carry-out .kept .0 ∙ inv .words;
-      room = back .before .before .before .before .before .before .carry-out .kept .1 .1 .0 ∙ inv .room;
-      same = inv .same ∙ stage-on _ _ _ _ _ _ _ _ _ (inv .within) more (back .before .before .before .before .before .before .carry-out .ensures) (eqb-true _ 0 going) (next .within) (next .same _ _);
+      words = next .words ∙ back .before .before .before .before .before .before .before .carry-out .kept .0 ∙ inv .words;
+      room = back .before .before .before .before .before .before .before .carry-out .kept .1 .1 .0 ∙ inv .room;
+      same = inv .same ∙ stage-on _ _ _ _ _ _ _ _ _ (inv .within) more (back .before .before .before .before .before .before .before .carry-out .ensures) (eqb-true _ 0 going) (next .within) (next .same _ _);
     }
 
 same-length-3 : tie.Need-same-length-3 Inv-loop μ-loop

@@ -36,8 +36,8 @@ same-length c = search needs
 
 returns-2 : tie.Need-returns-2
 returns-2 c =
-    let back = c .before .before .before .before .before .before .before .before in
-    carries _ _ _ _ _ _ _ (back .before .if1 .left) (c .before .before .before .before .before .take .ensures ∙ ap (field 12 4) (c .before .before .before .before .before .before .before .word-below .ensures)) (ap (λ (a : Address). a .0) (c .before .before .before .before .of .ensures) ∙ ap (kept 12) (c .before .before .before .before .before .before .before .word-below .ensures)) (rw (c .before .before .before .before .before .before .plus .ensures) refl) (c .before .before .act-below .ensures)
+    let back = c .before .before .before .before .before .before .before in
+    carries _ _ _ _ _ _ _ (back .before .before .if1 .left) (c .before .before .before .before .before .take .ensures ∙ ap (field 12 4) (c .before .before .before .before .before .before .before .word-below .ensures)) (ap (λ (a : Address). a .0) (c .before .before .before .before .of .ensures) ∙ ap (kept 12) (c .before .before .before .before .before .before .before .word-below .ensures)) (rw (c .before .before .before .before .before .before .plus .ensures) refl) (c .before .before .act-below .ensures)
 
 pub carry-out-below-spec : {M : Type 1} → statement M
 carry-out-below-spec =

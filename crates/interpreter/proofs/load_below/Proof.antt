@@ -1,5 +1,6 @@
 -- `load_below` leaves a port alone; below the ports AC gets memory's word.
-use Rattle.interpreter.proofs.BelowPorts.{stays, passes, gains-below}
+use Rattle.interpreter.proofs.BelowPorts.{stays, gained}
+use mathlib.Core.Path.{refl}
 use borrow.Author.Needs.{needs}
 use Rattle.interpreter.proofs.load_below.Statement.{statement}
 use Rattle.interpreter.proofs.load_below.Tie as tie
@@ -17,7 +18,7 @@ pass-requires : tie.Need-pass-requires
 pass-requires c κs = search needs
 
 returns-2 : tie.Need-returns-2
-returns-2 c = passes _ _ _ _ _ _ (c .pass .ensures) (rw (c .before .word-below .ensures) (λ input b. gains-below _ _ input b 9 _ (λ m. m) (c .before .before .before .before .if1 .left)))
+returns-2 c = gained _ _ 9 _ (λ m. m) _ _ _ (c .before .before .before .before .if1 .left) (c .before .word-below .ensures) refl (c .pass .ensures)
 
 pub load-below-spec : {M : Type 1} → statement M
 load-below-spec =

@@ -30,8 +30,8 @@ returns c = rests _ _ _ _ _ _ _ _ _ (c .before .before .before .before .before .
 
 add-cycles : tie.Need-add-cycles Inv-loop μ-loop
 add-cycles c =
-    let back = c .before .before .before .before .before .before .before .before in
-    let least : c .before .before .before .before .before .carry-out-below .result .cycles ≤ 11 = paid-below _ _ _ _ (c .before .before .before .before .before .carry-out-below .ensures) (c .before .before .if1 .left) in omega (arith, least, c .before .before .before .before .before .before .before .before .loop .inv .spent, c .before .before .before .before .before .before .before .before .loop .inv .within, c .before .before .before .before .before .before .before .loop-test .taken, back .before .before .before .before .fits .n)
+    let back = c .before .before .before .before .before .before .before in
+    let least : c .before .before .before .before .before .carry-out-below .result .cycles ≤ 11 = paid-below _ _ _ _ (c .before .before .before .before .before .carry-out-below .ensures) (c .before .before .if1 .left) in omega (arith, least, back .before .loop .inv .spent, back .before .loop .inv .within, c .before .before .before .before .before .before .before .loop-test .taken, back .before .before .before .before .before .fits .n)
 
 sub-left : tie.Need-sub-left Inv-loop μ-loop
 sub-left c = omega (arith, c .before .before .before .before .before .before .before .loop-test .taken)
@@ -40,7 +40,9 @@ loop-less : tie.Need-loop-less Inv-loop μ-loop
 loop-less c = omega (arith, c .before .before .before .before .before .before .before .loop-test .taken)
 
 loop-again : tie.Need-loop-again Inv-loop μ-loop
-loop-again c = moves _ _ _ _ _ _ _ _ _ (c .before .before .before .before .before .before .before .before .loop .inv) (c .before .before .before .before .before .before .before .loop-test .taken) (c .before .before .before .before .before .carry-out-below .ensures) (c .before .before .if1 .left) (c .before .before .before .before .before .carry-out-below .kept .0)
+loop-again c =
+    let back = c .before .before .before .before .before .before .before in
+    moves _ _ _ _ _ _ _ _ _ (back .before .loop .inv) (c .before .before .before .before .before .before .before .loop-test .taken) (c .before .before .before .before .before .carry-out-below .ensures) (c .before .before .if1 .left) (c .before .before .before .before .before .carry-out-below .kept .0)
 
 so-far-requires-2 : tie.Need-so-far-requires-2 Inv-loop μ-loop
 so-far-requires-2 c κs = search needs

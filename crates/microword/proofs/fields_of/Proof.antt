@@ -33,7 +33,9 @@ take-requires-9 c κs = search needs
 
 returns : tie.Need-returns
 unfolding fieldsOf
-returns c = simp (c .before .before .before .before .before .before .before .before .take .ensures, c .before .before .before .before .before .before .before .take2 .ensures, c .before .before .before .before .before .before .take3 .ensures, c .before .before .before .before .before .take4 .ensures, c .before .before .before .before .take5 .ensures, c .before .before .before .take6 .ensures, c .before .before .take7 .ensures, c .before .take8 .ensures, c .take9 .ensures)
+returns c =
+    let back = c .before .before .before .before .before .before .before in
+    simp (back .before .take .ensures, c .before .before .before .before .before .before .before .take2 .ensures, c .before .before .before .before .before .before .take3 .ensures, c .before .before .before .before .before .take4 .ensures, c .before .before .before .before .take5 .ensures, c .before .before .before .take6 .ensures, c .before .before .take7 .ensures, c .before .take8 .ensures, c .take9 .ensures)
 
 pub fields-of-spec : {M : Type 1} → statement M
 fields-of-spec =

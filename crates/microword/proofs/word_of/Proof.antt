@@ -34,7 +34,9 @@ put-below-requires-9 c κs = search needs
 
 returns : tie.Need-returns
 unfolding wordOf joined
-returns c = simp (c .before .before .before .before .before .before .before .before .put-below .ensures, c .before .before .before .before .before .before .before .put-below2 .ensures, c .before .before .before .before .before .before .put-below3 .ensures, c .before .before .before .before .before .put-below4 .ensures, c .before .before .before .before .put-below5 .ensures, c .before .before .before .put-below6 .ensures, c .before .before .put-below7 .ensures, c .before .put-below8 .ensures, c .put-below9 .ensures)
+returns c =
+    let back = c .before .before .before .before .before .before .before in
+    simp (back .before .put-below .ensures, c .before .before .before .before .before .before .before .put-below2 .ensures, c .before .before .before .before .before .before .put-below3 .ensures, c .before .before .before .before .before .put-below4 .ensures, c .before .before .before .before .put-below5 .ensures, c .before .before .before .put-below6 .ensures, c .before .before .put-below7 .ensures, c .before .put-below8 .ensures, c .put-below9 .ensures)
 
 pub word-of-spec : {M : Type 1} → statement M
 word-of-spec =
