@@ -135,7 +135,7 @@ pub struct Interpreted {
 
 /// Runs `cycles` cycles of the engine on a control store.
 ///
-/// Refuses, in this order and before any cycle, with [`Refusal::Length`], [`Refusal::PlaceOrCount`],
+/// Refuses, in this order and before any cycle, with [`Refusal::WrongSize`], [`Refusal::PlaceOrCount`],
 /// [`Refusal::RegisterOrLine`] or [`Refusal::ControlWord`]; these leave memory, log and machine as found.
 /// [`Refusal::LogFull`] leaves them as they were before the refused cycle.
 ///
@@ -231,7 +231,7 @@ pub fn press(
 
 /// Runs `instructions` instructions of the interpreter.
 ///
-/// Refuses, in this order and before any instruction, with [`Refusal::Length`], [`Refusal::PlaceOrCount`] or
+/// Refuses, in this order and before any instruction, with [`Refusal::WrongSize`], [`Refusal::PlaceOrCount`] or
 /// [`Refusal::RegisterOrLine`]; these leave memory, log and CPU as found. [`Refusal::LogFull`] leaves them as they were
 /// before the whole refused instruction, input place included.
 pub fn interpreter_run(
@@ -275,7 +275,7 @@ pub fn interpreter_run(
 
 /// Assembles micro text into the 64 words of a control store; lines that the text lacks become zero words.
 ///
-/// Refuses with [`Refusal::Length`], [`Refusal::TextLength`], and then with the first faulty line's
+/// Refuses with [`Refusal::WrongSize`], [`Refusal::TextLength`], and then with the first faulty line's
 /// [`Refusal::LineTooMany`], [`Refusal::LineNumber`], [`Refusal::Grammar`], [`Refusal::Target`] or [`Refusal::Parts`],
 /// in this order. Any refusal leaves the store as found.
 ///
@@ -295,7 +295,7 @@ pub fn micro_assemble(text: &[u8], store: &mut [u32]) -> Result<(), Refusal> {
 
 /// Lists a control store at the start of the room and gives the listing's length; the room past it stays as found.
 ///
-/// Refuses, in this order, with [`Refusal::Length`], [`Refusal::ListingRoom`], [`Refusal::ControlWord`] or
+/// Refuses, in this order, with [`Refusal::WrongSize`], [`Refusal::ListingRoom`], [`Refusal::ControlWord`] or
 /// [`Refusal::ListingEnd`]. Any refusal leaves the room as found.
 ///
 /// ```
@@ -316,7 +316,7 @@ pub fn micro_list(store: &[u32], room: &mut [u8]) -> Result<usize, Refusal> {
 
 /// Reads an image into memory: all 4,096 words are set, to 0 where the image has no record.
 ///
-/// Refuses with [`Refusal::Length`], [`Refusal::ImageLength`], and then with the first faulty record's
+/// Refuses with [`Refusal::WrongSize`], [`Refusal::ImageLength`], and then with the first faulty record's
 /// [`Refusal::RecordAddress`], [`Refusal::RecordOrder`] or [`Refusal::RecordValue`], in this order. Any refusal leaves
 /// memory as found.
 ///
@@ -335,7 +335,7 @@ pub fn image_read(image: &[u8], memory: &mut [u16]) -> Result<(), Refusal> {
 
 /// Writes the image of a memory at the start of the room and gives its length; the room past it stays as found.
 ///
-/// Refuses, in this order, with [`Refusal::Length`] or [`Refusal::ImageRoom`]. Any refusal leaves the room as found.
+/// Refuses, in this order, with [`Refusal::WrongSize`] or [`Refusal::ImageRoom`]. Any refusal leaves the room as found.
 ///
 /// ```
 /// let mut memory = [0u16; 4096];
@@ -365,12 +365,12 @@ pub fn printed_store() -> [u32; STORE_WORDS] {
 
 /// Refusal 1 comes before any other in every function, so a length may be tested before the call.
 fn memory_length(memory: &[u16]) -> Result<(), Refusal> {
-    (memory.len() == MEMORY_WORDS).then_some(()).ok_or(Refusal::Length)
+    (memory.len() == MEMORY_WORDS).then_some(()).ok_or(Refusal::WrongSize)
 }
 
 /// As for memory.
 fn store_length(store: &[u32]) -> Result<(), Refusal> {
-    (store.len() == STORE_WORDS).then_some(()).ok_or(Refusal::Length)
+    (store.len() == STORE_WORDS).then_some(()).ok_or(Refusal::WrongSize)
 }
 
 impl Machine {

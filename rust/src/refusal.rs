@@ -6,7 +6,7 @@ use std::fmt;
 #[derive(Clone, Copy, Debug, PartialEq, Eq, Hash)]
 pub enum Refusal {
     /// 1: memory is not 4,096 words, or the control store not 64.
-    Length,
+    WrongSize,
     /// 2: the input place is past the input's end, or the log count past the log's length.
     PlaceOrCount,
     /// 3: CP, PP or REM is above 4,095, or the control line above 63.
@@ -54,7 +54,7 @@ impl Refusal {
     /// ```
     pub fn number(self) -> u32 {
         match self {
-            Refusal::Length => 1,
+            Refusal::WrongSize => 1,
             Refusal::PlaceOrCount => 2,
             Refusal::RegisterOrLine => 3,
             Refusal::ControlWord { .. } => 4,
@@ -79,7 +79,7 @@ impl Refusal {
 impl fmt::Display for Refusal {
     fn fmt(&self, out: &mut fmt::Formatter) -> fmt::Result {
         let meaning = match self {
-            Refusal::Length => "memory is not 4,096 words, or the control store not 64",
+            Refusal::WrongSize => "memory is not 4,096 words, or the control store not 64",
             Refusal::PlaceOrCount => "the input place is past the input's end, or the log count past the log's length",
             Refusal::RegisterOrLine => "CP, PP or REM is above 4,095, or the control line above 63",
             Refusal::ControlWord { line } => {
@@ -110,7 +110,7 @@ impl std::error::Error for Refusal {}
 pub(crate) fn outcome(answer: u32, line: usize) -> Result<(), Refusal> {
     Err(match answer {
         0 => return Ok(()),
-        1 => Refusal::Length,
+        1 => Refusal::WrongSize,
         2 => Refusal::PlaceOrCount,
         3 => Refusal::RegisterOrLine,
         4 => Refusal::ControlWord { line },
