@@ -125,24 +125,24 @@ pub fn step(
         count,
     );
     let stop = moved.stop;
-    if stop.goes_on() {
-        arrive(m.rd, moved.rdm, registers);
-        let half = moved.half;
+    if !stop.goes_on() {
+        let s = m.s as usize;
+        registers[s] = first.old;
         return Stepped {
-            line: next,
+            line,
             half,
-            place: moved.place,
-            count: moved.count,
-            stop: Stop::GoesOn,
+            place,
+            count,
+            stop,
         };
     }
-    let s = m.s as usize;
-    registers[s] = first.old;
+    arrive(m.rd, moved.rdm, registers);
+    let half = moved.half;
     Stepped {
-        line,
+        line: next,
         half,
-        place,
-        count,
-        stop,
+        place: moved.place,
+        count: moved.count,
+        stop: Stop::GoesOn,
     }
 }

@@ -72,11 +72,7 @@ fn check(store: &[u32], memory: &[u16], input: &[u16], log: &[u16], machine: Mac
     }
     let registers = machine.registers;
     let line = machine.line;
-    if bus::is_outside(registers[CP])
-        | bus::is_outside(registers[PP])
-        | bus::is_outside(registers[REM])
-        | (63 < line.0)
-    {
+    if (4095 < registers[CP]) | (4095 < registers[PP]) | (4095 < registers[REM]) | (63 < line.0) {
         return Answer::OutOfRange;
     }
     let bad = store::first_bad(store);
@@ -126,8 +122,8 @@ fn repeat(
     let mut half = machine.half;
     let mut place = machine.place;
     let mut count = machine.count;
-    let mut done: u32 = 0;
-    while done < n {
+    let mut left = n;
+    while 0 < left {
         let t = cycle::step(
             store::word_at(store, line),
             memory,
@@ -151,11 +147,11 @@ fn repeat(
                 place,
                 count,
                 registers,
-                done,
+                n - left,
                 Answer::Finished(stop),
             );
         }
-        done += 1;
+        left -= 1;
     }
     report(
         line,
@@ -163,7 +159,7 @@ fn repeat(
         place,
         count,
         registers,
-        done,
+        n,
         Answer::Finished(Stop::GoesOn),
     )
 }

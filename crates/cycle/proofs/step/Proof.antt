@@ -2,6 +2,7 @@
 -- what stood in S.
 use mathlib.Core.Path.{sym, _∙_}
 use borrow.Author.Needs.{needs}
+use Rattle.word.proofs.Tests.{not-true, not-false}
 use Rattle.cycle.proofs.Laws.{small, rests, carried, refused}
 use Rattle.cycle.proofs.step.Statement.{statement}
 use Rattle.cycle.proofs.step.Tie as tie
@@ -27,21 +28,6 @@ transfer-requires c κs = search needs
 goes-on-requires : tie.Need-goes-on-requires
 goes-on-requires c κs = search needs
 
-arrive-requires : tie.Need-arrive-requires
-arrive-requires c κs = search needs
-
-same-length : tie.Need-same-length
-same-length c = search needs
-
-same-length-2 : tie.Need-same-length-2
-same-length-2 c = search needs
-
-returns-2 : tie.Need-returns-2
-returns-2 c =
-    let back = c .before .before .before .before .before .before .before in
-    let further = back .before .before .before .before .before .before .before in
-    rw (c .arrive .ensures) (carried _ _ _ _ (further .before .before .before .before .before .before .begin .ensures) (back .before .transfer .result) (back .before .transfer .ensures) (sym (c .before .before .before .goes-on .ensures) ∙ c .before .before .if2 .taken))
-
 cast-s : tie.Need-cast-s
 cast-s c = search needs
 
@@ -54,6 +40,21 @@ element-write-registers c =
     let further = back .before .before .before .before .before .before .before in
     small _ _ _ (further .before .before .before .before .before .begin .ensures) .s
 
+same-length : tie.Need-same-length
+same-length c = search needs
+
+same-length-2 : tie.Need-same-length-2
+same-length-2 c = search needs
+
+returns-2 : tie.Need-returns-2
+returns-2 c =
+    let back = c .before .before .before .before .before .before .before in
+    let further = back .before .before .before .before .before .before .before in
+    refused _ _ _ _ (further .before .before .before .before .before .begin .ensures) (c .before .before .before .before .before .before .before .transfer .result) (c .before .before .before .before .before .before .before .transfer .ensures) (sym (c .before .before .goes-on .ensures) ∙ not-true _ (c .before .if2 .taken))
+
+arrive-requires : tie.Need-arrive-requires
+arrive-requires c κs = search needs
+
 same-length-3 : tie.Need-same-length-3
 same-length-3 c = search needs
 
@@ -64,7 +65,7 @@ returns-3 : tie.Need-returns-3
 returns-3 c =
     let back = c .before .before .before .before .before .before .before in
     let further = back .before .before .before .before .before .before .before in
-    refused _ _ _ _ (further .before .before .before .before .before .begin .ensures) (c .before .before .before .before .before .before .before .transfer .result) (c .before .before .before .before .before .before .before .transfer .ensures) (sym (c .before .before .goes-on .ensures) ∙ c .before .if2 .left)
+    rw (c .arrive .ensures) (carried _ _ _ _ (further .before .before .before .before .before .before .begin .ensures) (back .before .transfer .result) (back .before .transfer .ensures) (sym (c .before .before .before .goes-on .ensures) ∙ not-false _ (c .before .before .if2 .left)))
 
 pub step-spec : {M : Type 1} → statement M
 step-spec =
@@ -77,13 +78,13 @@ step-spec =
     element-copy-out-transfer
     transfer-requires
     goes-on-requires
-    arrive-requires
-    same-length
-    same-length-2
-    returns-2
     cast-s
     mul-registers
     element-write-registers
+    same-length
+    same-length-2
+    returns-2
+    arrive-requires
     same-length-3
     same-length-4
     returns-3)

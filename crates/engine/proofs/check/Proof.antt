@@ -22,29 +22,20 @@ returns-2 : tie.Need-returns-2
 unfolding refusal
 returns-2 c = rw (← c .before .before .before .before .is-wrong-memory .ensures, ← c .before .before .before .is-wrong .ensures, c .before .before .if1 .left, ← c .before .is-past-end .ensures, c .if2 .taken)
 
-array-read-is-outside : tie.Need-array-read-is-outside
-array-read-is-outside c = search needs
+array-read-if3 : tie.Need-array-read-if3
+array-read-if3 c = search needs
 
-is-outside-requires : tie.Need-is-outside-requires
-is-outside-requires c κs = search needs
+array-read-if3-2 : tie.Need-array-read-if3-2
+array-read-if3-2 c = search needs
 
-array-read-is-outside-2 : tie.Need-array-read-is-outside-2
-array-read-is-outside-2 c = search needs
-
-is-outside-requires-2 : tie.Need-is-outside-requires-2
-is-outside-requires-2 c κs = search needs
-
-array-read-is-outside-3 : tie.Need-array-read-is-outside-3
-array-read-is-outside-3 c = search needs
-
-is-outside-requires-3 : tie.Need-is-outside-requires-3
-is-outside-requires-3 c κs = search needs
+array-read-if3-3 : tie.Need-array-read-if3-3
+array-read-if3-3 c = search needs
 
 returns-3 : tie.Need-returns-3
 unfolding refusal
 returns-3 c =
     let back = c .before .before .before .before .before .before .before in
-    rw (← back .before .before .before .before .is-wrong-memory .ensures, ← back .before .before .before .is-wrong .ensures, back .before .before .if1 .left, ← back .before .is-past-end .ensures, c .before .before .before .before .before .before .before .if2 .left, ← c .before .before .before .before .is-outside .ensures, ← c .before .before .before .is-outside2 .ensures, ← c .before .before .is-outside3 .ensures, c .if3 .taken)
+    rw (← back .before .is-wrong-memory .ensures, ← c .before .before .before .before .before .before .before .is-wrong .ensures, c .before .before .before .before .before .before .if1 .left, ← c .before .before .before .before .before .is-past-end .ensures, c .before .before .before .before .if2 .left, c .if3 .taken)
 
 first-bad-requires : tie.Need-first-bad-requires
 first-bad-requires c κs = search needs
@@ -56,13 +47,13 @@ returns-4 : tie.Need-returns-4
 unfolding refusal
 returns-4 c =
     let back = c .before .before .before .before .before .before .before in
-    rw (← back .before .before .before .before .before .before .is-wrong-memory .ensures, ← back .before .before .before .before .before .is-wrong .ensures, back .before .before .before .before .if1 .left, ← back .before .before .before .is-past-end .ensures, back .before .before .if2 .left, ← c .before .before .before .before .before .before .is-outside .ensures, ← c .before .before .before .before .before .is-outside2 .ensures, ← c .before .before .before .before .is-outside3 .ensures, c .before .before .if3 .left, ← c .before .first-bad .ensures, lt-ltb _ _ (c .if4 .taken))
+    rw (← back .before .before .before .is-wrong-memory .ensures, ← back .before .before .is-wrong .ensures, back .before .if1 .left, ← c .before .before .before .before .before .before .before .is-past-end .ensures, c .before .before .before .before .before .before .if2 .left, c .before .before .if3 .left, ← c .before .first-bad .ensures, lt-ltb _ _ (c .if4 .taken))
 
 returns-5 : tie.Need-returns-5
 unfolding refusal
 returns-5 c =
     let back = c .before .before .before .before .before .before .before in
-    rw (← back .before .before .before .before .before .before .is-wrong-memory .ensures, ← back .before .before .before .before .before .is-wrong .ensures, back .before .before .before .before .if1 .left, ← back .before .before .before .is-past-end .ensures, back .before .before .if2 .left, ← c .before .before .before .before .before .before .is-outside .ensures, ← c .before .before .before .before .before .is-outside2 .ensures, ← c .before .before .before .before .is-outside3 .ensures, c .before .before .if3 .left, ← c .before .first-bad .ensures, le-ltb _ _ (c .if4 .left))
+    rw (← back .before .before .before .is-wrong-memory .ensures, ← back .before .before .is-wrong .ensures, back .before .if1 .left, ← c .before .before .before .before .before .before .before .is-past-end .ensures, c .before .before .before .before .before .before .if2 .left, c .before .before .if3 .left, ← c .before .first-bad .ensures, le-ltb _ _ (c .if4 .left))
 
 pub check-spec : {M : Type 1} → statement M
 check-spec =
@@ -73,12 +64,9 @@ check-spec =
     returns
     is-past-end-requires
     returns-2
-    array-read-is-outside
-    is-outside-requires
-    array-read-is-outside-2
-    is-outside-requires-2
-    array-read-is-outside-3
-    is-outside-requires-3
+    array-read-if3
+    array-read-if3-2
+    array-read-if3-3
     returns-3
     first-bad-requires
     cast-t26
