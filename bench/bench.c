@@ -244,7 +244,7 @@ static void add_random_store(void)
 
 static void add_text(const char *name, const uint8_t *text, size_t length)
 {
-    struct work *work = new_work("assembler", name, "MB/s of text");
+    struct work *work = new_work("micro text", name, "MB/s of text");
     memcpy(work->bytes, text, length);
     work->length = length;
     work->call = call_assembler;

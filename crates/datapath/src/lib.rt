@@ -6,8 +6,8 @@ ghost use Rattle.bus.specs.declared.Stop.the-variants.{GoesOn};
 use bus::Stop;
 use word::Address;
 
-// A bit a register: CP, PP and REM (0, 2 and 6) keep only 12 of theirs.
-const SHORT: u32 = 0b100_0101;
+// The bits that each register keeps: of CP, PP and REM the low 12.
+const KEPT: [u16; 8] = [4095, 65535, 4095, 65535, 65535, 65535, 4095, 65535];
 
 // What a cycle leaves half done.
 pub enum Half {
@@ -48,10 +48,8 @@ pub fn keep_in(register: u32, value: u16) -> u16
     if 8 <= register {
         return value;
     }
-    if (SHORT >> register) & 1 == 1 {
-        return value & 4095;
-    }
-    value
+    let k = register as usize;
+    value & KEPT[k]
 }
 
 // Whether SQ sends this cycle to END, by N and Z of its full result.

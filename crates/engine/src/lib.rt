@@ -176,12 +176,13 @@ pub fn run(
     ensures { λ r. ⌜ runs (now (store .entry)) (now (input .entry)) n (stateOf machine (now (memory .entry)) (now (log .entry))) ≡ endedBy r (now (memory .exit)) (now (log .exit)) ⌝ }
 {
     let answer = check(store, memory, input, log, machine);
-    if answer.number() != 0 {
-        return Ran {
+    if answer.number() == 0 {
+        repeat(store, memory, input, log, machine, n)
+    } else {
+        Ran {
             machine,
             done: 0,
             answer,
-        };
+        }
     }
-    repeat(store, memory, input, log, machine, n)
 }
