@@ -14,20 +14,21 @@ use lib.Dec.{ltb, eqb}
 use borrow.Author.Tests.{lt-ltb, ltb-true, eqb-true}
 use Rattle.word.specs.Number.{field, kept, joined, total, widths}
 use Rattle.word.proofs.Laws.{kept-below, kept-whole, joined-below, joined-at, empty, joined-taken, taken}
+use Rattle.word.proofs.Tests.{both}
 use Rattle.microword.specs.Microword.{Layout, widthsOf, bitsOf, fieldsBy, layoutBy, wordBy, narrow, fieldsOf, layout, wordOf, badWord, idle, binary, normalFields, normalForm, clear, unusedClear, isNormal}
 use Rattle.microword.specs.declared.Fields.{Fields}
 
 -- Each field is below its bound.
 pub record WithinBy (l : Layout) (m : Fields) : Type 0 where
-  pub a : m .a < 2 ^ (l .register)
-  pub b : m .b < 2 ^ (l .register)
-  pub s : m .s < 2 ^ (l .register)
+  pub a : m .a < 2 ^ (l .registerBits)
+  pub b : m .b < 2 ^ (l .registerBits)
+  pub s : m .s < 2 ^ (l .registerBits)
   pub hs : m .hs < 2
   pub f : m .f < 8
   pub rd : m .rd < 2
   pub wr : m .wr < 2
   pub sq : m .sq < 4
-  pub end : m .end < 2 ^ (l .line)
+  pub end : m .end < 2 ^ (l .lineBits)
 
 abbrev pub Within : Fields → Type 0
 Within m = WithinBy narrow m
@@ -36,15 +37,15 @@ pub within-by : (l : Layout) (w : ℕ) → WithinBy l (fieldsBy l w)
 unfolding fieldsBy
 within-by l w =
     record {
-      a = kept-below (l .register) _;
-      b = kept-below (l .register) _;
-      s = kept-below (l .register) _;
+      a = kept-below (l .registerBits) _;
+      b = kept-below (l .registerBits) _;
+      s = kept-below (l .registerBits) _;
       hs = kept-below 1 _;
       f = kept-below 3 _;
       rd = kept-below 1 _;
       wr = kept-below 1 _;
       sq = kept-below 2 _;
-      end = kept-below (l .line) _;
+      end = kept-below (l .lineBits) _;
     }
 
 -- For every layout of at most 32 bits.
@@ -61,15 +62,15 @@ module _ (l : Layout) (fits : bitsOf l ≤ 32) where
   unfolding wordBy fieldsBy total widths
   fields-back-by m v =
       rw (
-        at 0 (omega arith) ∙ kept-whole (l .register) (v .a),
-        at 1 (omega arith) ∙ kept-whole (l .register) (v .b),
-        at 2 (omega arith) ∙ kept-whole (l .register) (v .s),
+        at 0 (omega arith) ∙ kept-whole (l .registerBits) (v .a),
+        at 1 (omega arith) ∙ kept-whole (l .registerBits) (v .b),
+        at 2 (omega arith) ∙ kept-whole (l .registerBits) (v .s),
         at 3 (omega arith) ∙ kept-whole 1 (v .hs),
         at 4 (omega arith) ∙ kept-whole 3 (v .f),
         at 5 (omega arith) ∙ kept-whole 1 (v .rd),
         at 6 (omega arith) ∙ kept-whole 1 (v .wr),
         at 7 (omega arith) ∙ kept-whole 2 (v .sq),
-        at 8 (omega arith) ∙ kept-whole (l .line) (v .end),
+        at 8 (omega arith) ∙ kept-whole (l .lineBits) (v .end),
       )
     where
       at : (i : ℕ) → i < 9
@@ -154,15 +155,6 @@ form-is-normal w =
     let m : Fields = normalFields (fieldsOf w) in
     rw (lt-ltb _ _ (word-below m), fields-back m (normal-within (fieldsOf w) (fields-within w))) (unused-clear (fieldsOf w))
 
-left-true : (a b : Bool) → (a && b) ≡ true → a ≡ true
-left-true true b e = refl
-left-true false b e = e
-
-right-true : (a b : Bool) → (a && b) ≡ true → b ≡ true
-right-true true b e = e
-right-true false true e = refl
-right-true false false e = e
-
 -- Clearing what is clear changes nothing.
 clear-same : (unused : Bool) (value : ℕ) → clear unused value ≡ true → cond unused 0 value ≡ value
 clear-same true value e = sym (eqb-true value 0 e)
@@ -176,23 +168,23 @@ clear-fields m e =
     let end : Bool = clear (eqb (m .sq) 0) (m .end) in
     let a : Bool = clear (idle m) (m .a) in
     let f : Bool = clear (idle m) (m .f) in
-    let e₄ : (b && s && end && a) ≡ true = left-true (b && s && end && a) f e in
-    let e₃ : (b && s && end) ≡ true = left-true (b && s && end) a e₄ in
-    let e₂ : (b && s) ≡ true = left-true (b && s) end e₃ in
+    let e₄ : (b && s && end && a) ≡ true = both (b && s && end && a) f e .0 in
+    let e₃ : (b && s && end) ≡ true = both (b && s && end) a e₄ .0 in
+    let e₂ : (b && s) ≡ true = both (b && s) end e₃ .0 in
     rw (
-      clear-same (idle m) (m .a) (right-true (b && s && end) a e₄),
-      clear-same (idle m || not (binary m)) (m .b) (left-true b s e₂),
-      clear-same (eqb (m .hs) 0) (m .s) (right-true b s e₂),
-      clear-same (idle m) (m .f) (right-true (b && s && end && a) f e),
-      clear-same (eqb (m .sq) 0) (m .end) (right-true (b && s) end e₃),
+      clear-same (idle m) (m .a) (both (b && s && end) a e₄ .1),
+      clear-same (idle m || not (binary m)) (m .b) (both b s e₂ .0),
+      clear-same (eqb (m .hs) 0) (m .s) (both b s e₂ .1),
+      clear-same (idle m) (m .f) (both (b && s && end && a) f e .1),
+      clear-same (eqb (m .sq) 0) (m .end) (both (b && s) end e₃ .1),
     )
 
 -- The normal form is the word itself exactly when the word is normal.
 pub normal-same : (w : ℕ) → isNormal w ≡ true → normalForm w ≡ w
 unfolding isNormal normalForm
 normal-same w e =
-    let short : w < 8388608 = ltb-true w 8388608 (left-true (ltb w 8388608) (unusedClear (fieldsOf w)) e) in
-    rw (clear-fields (fieldsOf w) (right-true (ltb w 8388608) (unusedClear (fieldsOf w)) e)) (word-back w short)
+    let short : w < 8388608 = ltb-true w 8388608 (both (ltb w 8388608) (unusedClear (fieldsOf w)) e .0) in
+    rw (clear-fields (fieldsOf w) (both (ltb w 8388608) (unusedClear (fieldsOf w)) e .1)) (word-back w short)
 
 pub same-normal : (w : ℕ) → normalForm w ≡ w → isNormal w ≡ true
 same-normal w e = rw e at (form-is-normal w)

@@ -9,12 +9,12 @@ use Rattle.microword.specs.declared.Fields.{Fields}
 
 -- What differs between machines: the bits of a register's number and those of a control line.
 pub record Layout : Type 0 where
-  pub register : ℕ
-  pub line : ℕ
+  pub registerBits : ℕ
+  pub lineBits : ℕ
 
 -- The widths of the fields, highest first: A, B, S, HS 1, F 3, RD 1, WR 1, SQ 2, END.
 abbrev pub widthsOf : Layout → List ℕ
-widthsOf l = l .register ∷ l .register ∷ l .register ∷ 1 ∷ 3 ∷ 1 ∷ 1 ∷ 2 ∷ l .line ∷ []
+widthsOf l = l .registerBits ∷ l .registerBits ∷ l .registerBits ∷ 1 ∷ 3 ∷ 1 ∷ 1 ∷ 2 ∷ l .lineBits ∷ []
 
 -- The bits of a word together.
 abbrev pub bitsOf : Layout → ℕ
@@ -44,8 +44,8 @@ wide width value = record { width = width; value = value }
 -- The fields with their widths.
 abbrev pub layoutBy : Layout → Fields → List Field
 layoutBy l m =
-    wide (l .register) (m .a) ∷ wide (l .register) (m .b) ∷ wide (l .register) (m .s) ∷ wide 1 (m .hs) ∷ wide 3 (m .f) ∷ wide 1 (m .rd) ∷ wide 1 (m .wr)
-    ∷ wide 2 (m .sq) ∷ wide (l .line) (m .end) ∷ []
+    wide (l .registerBits) (m .a) ∷ wide (l .registerBits) (m .b) ∷ wide (l .registerBits) (m .s) ∷ wide 1 (m .hs) ∷ wide 3 (m .f) ∷ wide 1 (m .rd) ∷ wide 1 (m .wr)
+    ∷ wide 2 (m .sq) ∷ wide (l .lineBits) (m .end) ∷ []
 
 unfoldable pub wordBy : Layout → Fields → ℕ
 wordBy l m = joined 0 (layoutBy l m)
@@ -60,7 +60,7 @@ badBy l w = leb (2 ^ bitsOf l) w || clash (fieldsBy l w)
 
 -- Highest field first: A 3, B 3, S 3, HS 1, F 3, RD 1, WR 1, SQ 2, END 6.
 abbrev pub narrow : Layout
-narrow = record { register = 3; line = 6 }
+narrow = record { registerBits = 3; lineBits = 6 }
 
 -- END is bits 5 to 0 and A is bits 22 to 20.
 unfoldable pub fieldsOf : ℕ → Fields
