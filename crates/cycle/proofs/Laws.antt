@@ -18,8 +18,9 @@ use Rattle.datapath.specs.Transfer.{Transfer, moved, waits, transferred, leftIn
 use Rattle.datapath.proofs.Laws.{transfer-refused, rdm-stays}
 use Rattle.bus.specs.Ports.{Left}
 use Rattle.microword.specs.declared.Fields.{Fields}
-use Rattle.microword.specs.Microword.{Layout, fieldsOf}
-use Rattle.microword.proofs.Laws.{WithinBy, Within, fields-within}
+use Rattle.microword.specs.Microword.{Layout, narrow, fieldsOf}
+use Rattle.microword.proofs.Laws.{fields-within}
+use Rattle.microword.specs.Code.Within.{WithinBy, Within}
 use Rattle.word.proofs.Laws.{kept-below}
 use Rattle.word.proofs.Tests.{either}
 use Rattle.cycle.specs.Cycle.{State, result, stored, found, transfer, target, nextLine, arrived, driven, cycleOn}
@@ -52,13 +53,13 @@ restored m value registers true e = rw (e, set-set) (set-getD registers (m .s) 0
 restored m value registers false e = rw e (set-getD registers (m .s) 0)
 
 -- The fields that a cycle goes by are below their bounds.
-pub small-by : (l : Layout) (bits : ℕ) (m : Fields) (line : ℕ) (registers : List ℕ) {b : Beginning} → WithinBy l m → beginningOn bits m line registers ≡ b → WithinBy l (b .fields)
+began-within-by : (l : Layout) (bits : ℕ) (m : Fields) (line : ℕ) (registers : List ℕ) {b : Beginning} → WithinBy l m → beginningOn bits m line registers ≡ b
+    → WithinBy l (b .fields)
 unfolding beginningOn
-small-by l bits m line registers w first = subst (λ (x : Beginning). WithinBy l (x .fields)) first w
+began-within-by l bits m line registers w first = subst (λ (x : Beginning). WithinBy l (x .fields)) first w
 
-pub small : (word line : ℕ) (registers : List ℕ) {b : Beginning} → beginning word line registers ≡ b → Within (b .fields)
-unfolding beginningOn
-small word line registers first = subst (λ (x : Beginning). Within (x .fields)) first (fields-within word)
+pub began-within : (word line : ℕ) (registers : List ℕ) {b : Beginning} → beginning word line registers ≡ b → Within (b .fields)
+began-within word line registers first = began-within-by narrow 6 (fieldsOf word) line registers (fields-within word) first
 
 -- A cycle from its store on, by what its transfer comes to.
 module _ (bits : ℕ) (m : Fields) (input : List ℕ) (s : State) {b : Beginning} (first : beginningOn bits m (s .line) (s .registers) ≡ b) where

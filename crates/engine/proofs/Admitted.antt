@@ -1,16 +1,16 @@
 -- What answers 1 to 4 let through: it gives all that demand 3 asks of a state, and the engine keeps to it, so that a run can be
 -- continued by another.
-use Prim.Native.Nat.{ℕ, zero, suc, _+_, _-_, _%_, _^_, _≤_, _<_}
+use Prim.Native.Nat.{ℕ, _+_, _-_, _%_, _^_, _≤_, _<_}
 use mathlib.Core.Path.{_≡_, refl, ap, sym, _∙_}
 use mathlib.Core.List.{List}
-use mathlib.Core.Bool.{Bool, true, false, cond, not, _||_, true≢false}
+use mathlib.Core.Bool.{Bool, true, false, cond, not, _||_}
 use native.Mathlib.Omega.{arith}
 use native.Mathlib.Decide.{ℕ-discrete, decLt}
 use lib.ListN.{length, getD, set}
 use lib.Seq.{getD-set-same, getD-set-other, set-out}
 use lib.Pow.{pow-pos}
 use lib.Dec.{ltb, eqb}
-use borrow.Author.Tests.{ltb-true, ltb-false, eqb-true, le-ltb, eq-eqb}
+use borrow.Author.Tests.{ltb-true, ltb-false, eqb-true, le-ltb, eq-eqb, not-false}
 use Rattle.bus.specs.declared.Fetched.{Fetched}
 use Rattle.bus.specs.Ports.{Left, nextInput, readAt}
 use Rattle.bus.specs.Log.{after}
@@ -23,7 +23,7 @@ use Rattle.datapath.proofs.Laws.{transfer-leaves}
 use Rattle.microword.specs.declared.Fields.{Fields}
 use Rattle.microword.specs.Microword.{fieldsOf}
 use Rattle.microword.proofs.Laws.{fields-within}
-use Rattle.word.proofs.Tests.{neither, not-false, either}
+use Rattle.word.proofs.Tests.{neither, either}
 use Rattle.turns.proofs.Laws as T
 use Rattle.store.specs.Store.{wrongStore, controlWord, firstBad}
 use Rattle.cycle.specs.Cycle.{State, register, result, stored, found, transfer, nextLine, driven, cycleOn}

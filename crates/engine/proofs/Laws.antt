@@ -1,6 +1,6 @@
 -- Laws of a run on its way: how it begins by the check's answer, goes on, stops and ends, with the cycles' worth left out of what is told.
 use Prim.Native.Nat.{ℕ, _+_, _-_, _<_, _≤_}
-use mathlib.Core.Path.{_≡_, refl, ap, sym, _∙_}
+use mathlib.Core.Path.{_≡_, refl, ap}
 use mathlib.Core.Bool.{true, false}
 use mathlib.Core.List.{List}
 use lib.Dec.{eqb}

@@ -1,7 +1,7 @@
 -- Laws of the engine's runs: what a run does to memory and log, and no second answer.
 use Prim.Native.Nat.{ℕ, _-_, _≤_}
 use mathlib.Core.Path.{_≡_, refl, sym, _∙_, ap}
-use mathlib.Core.Bool.{Bool, false, cond}
+use mathlib.Core.Bool.{false, cond}
 use mathlib.Core.List.{List, _++_}
 use native.Mathlib.Omega.{arith}
 use lib.ListN.{length, getD, take, drop, length-append}
@@ -10,7 +10,7 @@ use lib.Dec.{eqb}
 use borrow.Author.Tests.{ne-eqb}
 use Rattle.bus.specs.Stops.{number}
 use Rattle.bus.specs.Ports.{Left}
-use Rattle.bus.specs.Log.{Sent, after, toLog, room, Took}
+use Rattle.bus.specs.Log.{after, toLog, room, Took}
 use Rattle.bus.proofs.Laws.{stopOf, stop-back, number-apart, kept, after-append, after-ports, to-log-append}
 use Rattle.microword.specs.Microword.{fieldsOf}
 use Rattle.turns.proofs.Laws as T

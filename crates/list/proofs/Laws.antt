@@ -1,5 +1,5 @@
 -- Laws of the list program: the words that bytes hold, what the lister's answer leaves in the room, and the text whatever the room held.
-use Prim.Native.Nat.{ℕ, zero, suc, _+_, _*_, _≤_, _<_}
+use Prim.Native.Nat.{ℕ, zero, suc, _+_, _*_, _≤_}
 use mathlib.Core.Path.{_≡_, refl, ap, _∙_}
 use mathlib.Core.Bool.{Bool, true, false, cond}
 use mathlib.Core.List.{List, [], _∷_, append-nil}
@@ -38,18 +38,18 @@ word-put store input line word next =
     rw (e, next, add-one)
 
 -- A listing lies within the room that it is left in.
-abbrev Within : Outcome → Type 0
-Within o = o .length ≤ length (o .room)
+abbrev InRoom : Outcome → Type 0
+InRoom o = o .length ≤ length (o .room)
 
-pub listed-within : (store room : List ℕ) → Within (listed store room)
+pub listed-within : (store room : List ℕ) → InRoom (listed store room)
 unfolding listed
 listed-within store room =
     let none : 0 ≤ length room = omega arith in
     let text = listing (words store) in
-    either Within (wrongStore store) none
-    (either Within (ltb (length room) 2816) none
-    (either Within (ltb (firstBad store) (length (words store))) none
-    (either Within (ltb (length room) (length text)) none (omega (arith, length-append text (drop (length text) room))))))
+    either InRoom (wrongStore store) none
+    (either InRoom (ltb (length room) 2816) none
+    (either InRoom (ltb (firstBad store) (length (words store))) none
+    (either InRoom (ltb (length room) (length text)) none (omega (arith, length-append text (drop (length text) room))))))
 
 -- 256 bytes hold 64 words.
 words-count : (k : ℕ) (input : List ℕ) → length input ≡ 4 * k → length (wordsOf input) ≡ k

@@ -5,9 +5,9 @@ use mathlib.Core.Bool.{Bool, true, false}
 use mathlib.Core.List.{List}
 use native.Mathlib.Numerals.{add-one}
 use native.Mathlib.Omega.{arith}
-use borrow.Author.Tests.{eq-eqb, ne-eqb, le-leb, lt-leb, ltb-true}
+use borrow.Author.Tests.{le-leb, lt-leb, ltb-true}
 use lib.Dec.{ltb}
-use lib.ListN.{length, drop, set, drop-of-length-le}
+use lib.ListN.{length, drop, drop-of-length-le}
 use Rattle.store.specs.Store.{wrongStore, withWord}
 use Rattle.microtext.specs.Line.{line}
 use Rattle.microtext.specs.Reading.{reading, readingAt}

@@ -6,6 +6,7 @@ use mathlib.Core.List.{List, [], _∷_}
 use native.Mathlib.Omega.{arith}
 use lib.Dec.{leb, eqb}
 use lib.ListN.{length, set, replicate}
+use Rattle.word.proofs.Tests.{All}
 use Rattle.microword.specs.Microword.{fieldsOf, idle, binary, unusedClear, isNormal}
 use Rattle.store.specs.Store.{wrongStore}
 use Rattle.microtext.specs.Line.{line, number as faultNumber}
@@ -57,8 +58,7 @@ only text store a b x y p q =
 
 -- Every word of an assembled store is normal.
 abbrev AllNormal : List ℕ → Type 0
-AllNormal [] = Unit {0}
-AllNormal (w ∷ ws) = (isNormal w ≡ true) × AllNormal ws
+AllNormal ws = All (λ (w : ℕ). isNormal w ≡ true) ws
 
 set-normal : (ws : List ℕ) (k w : ℕ) → AllNormal ws → isNormal w ≡ true → AllNormal (set ws k w)
 set-normal [] k w a e = tt

@@ -7,7 +7,8 @@ use native.Mathlib.Omega.{arith}
 use borrow.Author.Tests.{lt-ltb, ltb-true, leb-false, eqb-true, eq-eqb}
 use lib.Dec.{leb, ltb, eqb}
 use Rattle.microword.specs.Microword.{wordOf, idle, binary, unusedClear, isNormal}
-use Rattle.microword.proofs.Laws.{Within, fields-back, word-below}
+use Rattle.microword.proofs.Laws.{fields-back, word-below}
+use Rattle.microword.specs.Code.Within.{Within}
 use Rattle.microword.specs.declared.Fields.{Fields}
 use Rattle.token.specs.Tokens.{Token, tokens}
 use Rattle.part.specs.Grammar.{destination, operation, formula, bare, jump, test, part, registerNamed}
@@ -17,7 +18,7 @@ use Rattle.part.specs.declared.Part.the-variants.{Operation, Transfer, Jump, Fo
 use Rattle.microtext.specs.declared.Given.{Given}
 use Rattle.microtext.specs.declared.Fault.the-variants.{ExtraLine, WrongNumber, Ungrammatical, FarTarget, WrongParts}
 use Rattle.microtext.specs.declared.Meaning.the-variants.{Word, Refused}
-use Rattle.word.proofs.Tests.{both, neither, either}
+use Rattle.word.proofs.Tests.{both, neither, either, All}
 use Rattle.text.specs.Text.{_is_}
 use Rattle.text.specs.Decimal.{fromDecimal}
 
@@ -208,8 +209,7 @@ add-kept g (Jump sq n) k x =
 add-kept g Foreign k x = k
 
 abbrev AllFine : List Part → Type 0
-AllFine [] = Unit {0}
-AllFine (p ∷ ps) = FinePart p × AllFine ps
+AllFine ps = All FinePart ps
 
 given-kept : (ps : List Part) → AllFine ps → (g : Given) → Kept g → Kept (given g ps)
 unfolding given

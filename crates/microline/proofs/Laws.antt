@@ -12,6 +12,7 @@ use lib.ListN.{length, getD, take, drop, length-append, drop-of-length-le}
 use lib.Seq.{drop-cons, take-append-seam, drop-append-seam, getD-take, getD-drop}
 use Rattle.microword.specs.Microword.{fieldsOf, normalFields, idle, binary}
 use Rattle.microword.specs.declared.Fields.{Fields}
+use Rattle.microword.specs.Code.Within.{Within}
 use Rattle.microtext.specs.Listing.{formulas, formula, destination, operation, operationPart, jump, jumpPart, part, line, transferPart, registerName, jumpTexts}
 use Rattle.part.specs.Grammar.{registers}
 use Rattle.text.specs.Text.{bytes}
@@ -19,7 +20,7 @@ use Rattle.text.specs.Laid.{Laid, Wrote}
 use Rattle.text.proofs.Laid.{wrote, laid-stored}
 use Rattle.text.specs.Decimal.{shortDecimal}
 use Rattle.microline.specs.Line.{laidLine}
-use Rattle.microline.specs.Code.Pieces.{Small, stores, destinations, signsBefore, signsBehind, ends, seconds, transfers, jumpWords, table, texts, starts, Chosen, spelt, Known, Spells, to, first, second, parts, target}
+use Rattle.microline.specs.Code.Pieces.{stores, destinations, signsBefore, signsBehind, ends, seconds, transfers, jumpWords, table, texts, starts, Chosen, spelt, Known, Spells, to, first, second, parts, target}
 
 -- The text k starts and ends inside, and is this one.
 pub record Entry (all begins : List ℕ) (k : ℕ) (text : List ℕ) : Type 0 where
@@ -66,19 +67,6 @@ in-table : (start : ℕ) (pieces : List (List ℕ)) (k : ℕ) → take (length p
     → getD table (start + k) [] ≡ getD pieces k []
 in-table start pieces k same h =
     sym (getD-drop start table k []) ∙ sym (getD-take (length pieces) (drop start table) k [] h) ∙ ap (λ (l : List (List ℕ)). getD l k []) same
-
--- A word's fields have their widths.
-pub small : (w : ℕ) → Small (fieldsOf w)
-unfolding fieldsOf
-small w =
-    record {
-      a = omega arith;
-      b = omega arith;
-      s = omega arith;
-      f = omega arith;
-      sq = omega arith;
-      end = omega arith;
-    }
 
 -- What F computes with the semicolon, as the code puts it.
 twice : (text : List ℕ) → text ≡ text ++ [] ++ []
@@ -139,7 +127,7 @@ joined gap sign stop d formula before a behind last move jump e =
     let back : gap ++ d ++ sign ++ (formula ++ stop) ++ move ++ jump ≡ gap ++ (d ++ sign ++ formula) ++ stop ++ move ++ jump = simp append-assoc in
     regroup ∙ ap (λ (t : List ℕ). gap ++ d ++ sign ++ t ++ move ++ jump) (sym e) ∙ back
 
-pub spells-all : (m : Fields) (store one last move : ℕ) → Small m → idle m ≡ false → Chosen store (to m) → Chosen one (first m) → Chosen last (second m)
+pub spells-all : (m : Fields) (store one last move : ℕ) → Within m → idle m ≡ false → Chosen store (to m) → Chosen one (first m) → Chosen last (second m)
     → Chosen move (transferPart m)
     → Spells (store ∷ (9 + m .f) ∷ one ∷ (25 + m .f) ∷ last ∷ move ∷ (43 + m .sq) ∷ []) (parts m)
 unfolding spelt Known operation binary parts
@@ -152,7 +140,7 @@ spells-all m store one last move s busy t o l v =
           (second m) (transferPart m) (getD jumpWords (m .sq) []) (formula-pieces (m .f) (registerName (m .a)) (registerName (m .b)) (s .f)));
     }
 
-pub spells-idle : (m : Fields) (move : ℕ) → Small m → idle m ≡ true → Chosen move (transferPart m)
+pub spells-idle : (m : Fields) (move : ℕ) → Within m → idle m ≡ true → Chosen move (transferPart m)
     → Spells (43 ∷ 43 ∷ 43 ∷ 43 ∷ 43 ∷ move ∷ (43 + m .sq) ∷ []) (parts m)
 unfolding spelt Known parts table destinations signsBefore signsBehind seconds transfers jumpWords
 spells-idle m move s rests v =

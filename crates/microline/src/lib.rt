@@ -3,11 +3,12 @@ ghost use mathlib.Core.Path.{_≡_};
 ghost use mathlib.Core.List.{[], _∷_, _++_};
 ghost use Prim.Native.Nat.{_+_, _<_, _≤_};
 ghost use lib.ListN.{length};
+ghost use Rattle.microword.specs.Code.Within.{Within};
 ghost use Rattle.microtext.specs.Listing.{transferPart};
 ghost use Rattle.text.specs.Laid.{Wrote};
 ghost use Rattle.text.specs.Decimal.{shortDecimal};
 ghost use Rattle.microline.specs.Line.{laidLine};
-ghost use Rattle.microline.specs.Code.Pieces.{Small, table, Chosen, spelt, Known, Spells, to, first, second, target, texts as Pieces·texts, starts as Pieces·starts, parts as Pieces·parts};
+ghost use Rattle.microline.specs.Code.Pieces.{table, Chosen, spelt, Known, Spells, to, first, second, target, texts as Pieces·texts, starts as Pieces·starts, parts as Pieces·parts};
 use microword::Fields;
 use microword::fields_of;
 
@@ -97,7 +98,7 @@ fn put_pieces(room: &mut [u8], from: usize, texts: &[u8], starts: &[u8], which: 
 
 // Where the operation stores; `alu` stores nothing.
 fn destination(m: Fields) -> usize
-    requires { ⌜ Small m ⌝ }
+    requires { ⌜ Within m ⌝ }
     ensures { λ r. ⌜ Chosen r (to m) ⌝ }
 {
     if m.hs == 0 {
@@ -108,7 +109,7 @@ fn destination(m: Fields) -> usize
 
 // The register a, with the operation's semicolon where nothing stands behind it.
 fn first_of(m: Fields) -> usize
-    requires { ⌜ Small m ⌝ }
+    requires { ⌜ Within m ⌝ }
     ensures { λ r. ⌜ Chosen r (first m) ⌝ }
 {
     let f = m.f;
@@ -120,7 +121,7 @@ fn first_of(m: Fields) -> usize
 
 // The register b with the operation's semicolon, where F takes one.
 fn second_of(m: Fields) -> usize
-    requires { ⌜ Small m ⌝ }
+    requires { ⌜ Within m ⌝ }
     ensures { λ r. ⌜ Chosen r (second m) ⌝ }
 {
     let f = m.f;
@@ -146,7 +147,7 @@ fn transfer(m: Fields) -> usize
 // The pieces of a word's parts up to a jump's target. No operation where nothing asks for its result; else a sign
 // before the register a, or a sign behind it, or a sign and the register b.
 fn parts(m: Fields) -> [usize; 7]
-    requires { ⌜ Small m ⌝ }
+    requires { ⌜ Within m ⌝ }
     ensures { λ r. ⌜ Spells r (Pieces·parts m) ⌝ }
 {
     let moved = transfer(m);
@@ -171,7 +172,7 @@ fn parts(m: Fields) -> [usize; 7]
 
 // A word's parts up to a jump's target.
 fn put_parts(room: &mut [u8], at: usize, m: Fields) -> usize
-    requires { ⌜ Small m × (at + length (Pieces·parts m) ≤ length (now room)) ⌝ }
+    requires { ⌜ Within m × (at + length (Pieces·parts m) ≤ length (now room)) ⌝ }
     ensures { λ r. ⌜ Wrote (now (room .entry)) at (Pieces·parts m) (now (room .exit)) r ⌝ }
 {
     let which = parts(m);
@@ -202,7 +203,7 @@ fn put_number(room: &mut [u8], at: usize, k: u32, mark: u8) -> usize
 
 // A jump's target, where SQ asks for one.
 fn put_target(room: &mut [u8], at: usize, m: Fields) -> usize
-    requires { ⌜ Small m × (at + length (target m) ≤ length (now room)) ⌝ }
+    requires { ⌜ Within m × (at + length (target m) ≤ length (now room)) ⌝ }
     ensures { λ e. ⌜ Wrote (now (room .entry)) at (target m) (now (room .exit)) e ⌝ }
 {
     if m.sq == 0 {

@@ -7,7 +7,7 @@ use native.Mathlib.Omega.{arith}
 use borrow.Author.Tests.{eq-eqb, ne-eqb, eqb-false}
 use lib.Dec.{eqb}
 use lib.ListN.{length}
-use Rattle.token.specs.Next.{scanned}
+use Rattle.token.specs.Code.Next.{scanned}
 use Rattle.token.specs.declared.Scanned.{Scanned}
 use Rattle.token.proofs.Next.{NextToken, next as next-token}
 use Rattle.text.specs.Text.{endAt}

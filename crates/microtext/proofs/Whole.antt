@@ -8,14 +8,14 @@ use borrow.Author.Tests.{lt-ltb, le-ltb, eq-eqb, ne-eqb}
 use lib.Dec.{eqb}
 use lib.ListN.{length}
 use Rattle.token.specs.Tokens.{Token, tokens}
-use Rattle.token.specs.Next.{packed, scanned}
+use Rattle.token.specs.Code.Next.{packed, scanned}
 use Rattle.token.specs.declared.Scanned.{Scanned}
 use Rattle.token.proofs.Bytes.{Bytes, AllBytes, line-bytes}
 use Rattle.token.proofs.Packed.{known}
 use Rattle.token.proofs.Next.{next}
 use Rattle.part.specs.declared.Part.{Part}
 use Rattle.part.proofs.Course.{rest, Fine, step, finish}
-use Rattle.text.specs.Text.{bytes, _is_, lineAt, endAt, nextLine, pastEnd}
+use Rattle.text.specs.Text.{bytes, _is_, lineAt, endAt, nextLine, behindLine}
 use Rattle.token.proofs.Decimals.{decimal-of}
 use Rattle.token.specs.Code.Numbers.{codesAt, decimalOf, codeOf}
 use Rattle.part.specs.Code.Stage.{advance, finished}
@@ -231,5 +231,5 @@ module _ (text : List ℕ) (all-bytes : Bytes text) (at k : ℕ) (h : k < 64) (f
     unfolding codedParts
     with-parts z =
         let q : endAt text (colon .behind) ≡ endAt text at = next text (first .behind) colon c .line-end ∙ next text at first f .line-end in
-        ap (λ (n : ℕ). reading (concluded (allTaken noParts (codesAt text (colon .behind)))) (pastEnd n (length text))) q
+        ap (λ (n : ℕ). reading (concluded (allTaken noParts (codesAt text (colon .behind)))) (behindLine n (length text))) q
         ∙ sym (read-on ∙ rw z)

@@ -266,7 +266,7 @@ fn read_parts(text: &[u8], at: usize) -> Reading
         parts = taken(parts, next.token);
         next = token::next_token(text, next.behind);
     }
-    as_reading(concluded(parts), text::past_end(next.behind, text.len()))
+    as_reading(concluded(parts), text::behind_line(next.behind, text.len()))
 }
 
 // The line of `text` that begins at `at`, as the line numbered `line`.

@@ -1,38 +1,22 @@
 -- Laws of the control word: fields and word turn back into each other, and the normal form is what its name says.
 -- The turning back is the law of `word` over any layout, at this one; the normal form goes by what is without use.
-use Prim.Native.Nat.{ℕ, suc, _+_, _/_, _^_, _≤_, _<_}
+use Prim.Native.Nat.{ℕ, suc, _/_, _^_, _≤_, _<_}
 use mathlib.Core.Path.{_≡_, refl, sym, _∙_}
 use mathlib.Core.Bool.{Bool, true, false, cond, not, _&&_, _||_}
-use mathlib.Core.List.{List, [], _∷_}
-use native.Mathlib.Nat.{div-eq-of-lt, add-zero, zero-add}
-use native.Mathlib.Numerals.{add-one}
+use native.Mathlib.Nat.{div-eq-of-lt, zero-add}
 use native.Mathlib.Omega.{arith}
-use lib.ListN.{length, getD, drop, drop-of-length-le}
-use lib.Seq.{drop-cons}
+use lib.ListN.{getD, drop}
 use lib.Pow.{pow-mono}
 use lib.Dec.{ltb, eqb}
 use borrow.Author.Tests.{lt-ltb, ltb-true, eqb-true}
 use Rattle.word.specs.Number.{field, kept, joined, total, widths}
 use Rattle.word.proofs.Laws.{kept-below, kept-whole, joined-below, joined-at, empty, joined-taken, taken}
 use Rattle.word.proofs.Tests.{both}
-use Rattle.microword.specs.Microword.{Layout, widthsOf, bitsOf, fieldsBy, layoutBy, wordBy, narrow, fieldsOf, layout, wordOf, badWord, idle, binary, normalFields, normalForm, clear, unusedClear, isNormal}
+use Rattle.microword.specs.Microword.{Layout, widthsOf, bitsOf, fieldsBy, layoutBy, wordBy, badBy, narrow, fieldsOf, wordOf, badWord, idle, binary, normalFields, normalForm, clear, unusedClear, isNormal}
+use Rattle.microword.specs.Code.Within.{WithinBy, Within}
 use Rattle.microword.specs.declared.Fields.{Fields}
 
--- Each field is below its bound.
-pub record WithinBy (l : Layout) (m : Fields) : Type 0 where
-  pub a : m .a < 2 ^ (l .registerBits)
-  pub b : m .b < 2 ^ (l .registerBits)
-  pub s : m .s < 2 ^ (l .registerBits)
-  pub hs : m .hs < 2
-  pub f : m .f < 8
-  pub rd : m .rd < 2
-  pub wr : m .wr < 2
-  pub sq : m .sq < 4
-  pub end : m .end < 2 ^ (l .lineBits)
-
-abbrev pub Within : Fields → Type 0
-Within m = WithinBy narrow m
-
+-- The fields of a word are below their bounds.
 pub within-by : (l : Layout) (w : ℕ) → WithinBy l (fieldsBy l w)
 unfolding fieldsBy
 within-by l w =
@@ -83,6 +67,10 @@ module _ (l : Layout) (fits : bitsOf l ≤ 32) where
   word-below-by m = rw zero-add at (joined-below (layoutBy l m) 0 0 (omega arith) (omega arith))
 
 -- At 23 bits.
+pub bad-by : (w : ℕ) → badWord w ≡ badBy narrow w
+unfolding badWord badBy fieldsOf fieldsBy widths
+bad-by w = refl
+
 pub fields-within : (w : ℕ) → Within (fieldsOf w)
 unfolding fieldsOf
 fields-within w = within-by narrow w

@@ -1,1 +1,2 @@
 pub mod Microword
+pub mod Code

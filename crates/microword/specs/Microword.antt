@@ -67,9 +67,6 @@ unfoldable pub fieldsOf : ℕ → Fields
 unfolding fieldsBy widths
 fieldsOf w = fieldsBy narrow w
 
-abbrev pub layout : Fields → List Field
-layout m = layoutBy narrow m
-
 unfoldable pub wordOf : Fields → ℕ
 unfolding wordBy
 wordOf m = wordBy narrow m

@@ -12,7 +12,7 @@ use Rattle.text.specs.Decimal.{fromDecimal}
 use Rattle.text.proofs.Same.{same-equal}
 use Rattle.token.proofs.Decimals.{decimal-of}
 use Rattle.part.specs.Grammar.{destination, formula, last, bare, jump, test, part, registerNamed}
-use Rattle.token.specs.Next.{packed}
+use Rattle.token.specs.Code.Next.{packed}
 use Rattle.part.specs.declared.Part.{Part}
 use Rattle.part.specs.declared.Part.the-variants.{Operation, Transfer, Jump, Foreign}
 use Rattle.word.proofs.Tests.{cond-same}

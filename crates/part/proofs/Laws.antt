@@ -4,7 +4,7 @@ use Prim.Native.Nat.{ℕ}
 use mathlib.Core.Path.{_≡_, sym, _∙_}
 use mathlib.Core.List.{List, [], _∷_, map}
 use Rattle.token.specs.Tokens.{Token}
-use Rattle.token.specs.Next.{packed}
+use Rattle.token.specs.Code.Next.{packed}
 use Rattle.token.proofs.Bytes.{AllBytes}
 use Rattle.part.specs.Grammar.{part}
 use Rattle.part.specs.declared.Part.{Part}

@@ -4,7 +4,7 @@ use Rattle.token.specs.Tokens.{Token}
 use Rattle.text.specs.Text.{bytes}
 use Rattle.token.proofs.Names.{position-index, index-more}
 use Rattle.part.specs.Grammar.{registers, destination, registerNamed}
-use Rattle.token.specs.Next.{packed}
+use Rattle.token.specs.Code.Next.{packed}
 use Rattle.token.proofs.Bytes.{Bytes}
 use Rattle.token.proofs.Packed.{known}
 use Rattle.part.specs.Code.Stage.{registerOf, destinationOf}

@@ -46,11 +46,11 @@ abbrev pub endAt : List ℕ → ℕ → ℕ
 endAt text at = at + length (lineAt text at)
 
 -- Behind the byte 10 that ends a line at `end`, or at the text's end, which is at `last`.
-abbrev pub pastEnd : ℕ → ℕ → ℕ
-pastEnd end last = cond (ltb end last) (end + 1) end
+abbrev pub behindLine : ℕ → ℕ → ℕ
+behindLine end last = cond (ltb end last) (end + 1) end
 
 abbrev pub nextLine : List ℕ → ℕ → ℕ
-nextLine text at = pastEnd (endAt text at) (length text)
+nextLine text at = behindLine (endAt text at) (length text)
 
 -- The bytes of a text from `start` up to `behind`.
 abbrev pub span : List ℕ → ℕ → ℕ → List ℕ

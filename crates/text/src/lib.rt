@@ -1,11 +1,11 @@
 // Text as bytes: behind the end of a line, and text laid into a lent room. Lines and decimals are defined here for whoever reads text.
 ghost use mathlib.Core.Path.{_≡_};
-ghost use Rattle.text.specs.Text.{pastEnd};
+ghost use Rattle.text.specs.Text.{behindLine};
 ghost use Rattle.text.specs.Laid.{laid};
 
 // Behind the byte that ends a line at `end`, in a text that ends at `last`.
-pub fn past_end(end: usize, last: usize) -> usize
-    ensures { λ r. ⌜ r ≡ pastEnd end last ⌝ }
+pub fn behind_line(end: usize, last: usize) -> usize
+    ensures { λ r. ⌜ r ≡ behindLine end last ⌝ }
 {
     if end < last {
         return end + 1;

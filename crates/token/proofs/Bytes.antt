@@ -5,17 +5,16 @@ use mathlib.Core.Bool.{Bool, true, false, cond}
 use mathlib.Core.List.{List, [], _∷_, _++_}
 use lib.Dec.{eqb}
 use lib.ListN.{getD, drop}
+use Rattle.word.proofs.Tests.{All}
 use Rattle.text.specs.Text.{before, lineAt}
 use Rattle.token.specs.Tokens.{Token, oneToken, under, ended, going, tokensAfter, tokens, startedBy}
 
 -- All of them are bytes.
 abbrev pub Bytes : List ℕ → Type 0
-Bytes [] = Unit {0}
-Bytes (c ∷ t) = (c < 256) × Bytes t
+Bytes t = All (λ (c : ℕ). c < 256) t
 
 abbrev pub AllBytes : List Token → Type 0
-AllBytes [] = Unit {0}
-AllBytes (t ∷ ts) = Bytes t × AllBytes ts
+AllBytes ts = All Bytes ts
 
 pub bytes-all : (s : List ℕ) → ((i : ℕ) → getD s i 0 < 256) → Bytes s
 bytes-all [] h = tt

@@ -8,7 +8,7 @@ use borrow.Author.Tests.{leb-true, leb-false, lt-leb, lt-ltb, eqb-true, eqb-fals
 use lib.Dec.{leb, eqb}
 use Rattle.text.specs.Decimal.{digit, fromDecimal}
 use Rattle.token.specs.Tokens.{Token}
-use Rattle.token.specs.Next.{grown, packedAfter, packed}
+use Rattle.token.specs.Code.Next.{grown, packedAfter, packed}
 use Rattle.token.proofs.Bytes.{Bytes}
 use Rattle.token.proofs.Next.{packed-least}
 use Rattle.token.specs.Code.Numbers.{decimalOf}

@@ -3,7 +3,7 @@ use Prim.Native.Nat.{ℕ}
 use mathlib.Core.Path.{_≡_}
 use mathlib.Core.List.{List}
 use Rattle.word.proofs.Laws.{only}
-use Rattle.token.specs.Next.{startAt, scanned}
+use Rattle.token.specs.Code.Next.{startAt, scanned}
 use Rattle.token.specs.declared.Scanned.{Scanned}
 use Rattle.token.specs.Code.Numbers.{decimalOf}
 

@@ -11,7 +11,7 @@ use Rattle.word.proofs.Tests.{both}
 use Rattle.text.specs.Text.{same}
 use Rattle.text.proofs.Same.{same-equal}
 use Rattle.token.specs.Tokens.{Token, index}
-use Rattle.token.specs.Next.{packed}
+use Rattle.token.specs.Code.Next.{packed}
 use Rattle.token.specs.Code.Numbers.{numeral, position}
 use Rattle.token.proofs.Bytes.{Bytes}
 use Rattle.token.proofs.Packed.{short, known}

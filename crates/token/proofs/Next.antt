@@ -12,7 +12,7 @@ use lib.Seq.{drop-drop}
 use Rattle.text.specs.Text.{before, lineAt, endAt, span}
 use Rattle.text.proofs.Lines.{line-behind, line-within, line-part}
 use Rattle.token.specs.Tokens.{Token, ended, tokensAfter, tokens}
-use Rattle.token.specs.Next.{startAt, grown, packedAfter, packed, first, spaces, scanned}
+use Rattle.token.specs.Code.Next.{startAt, grown, packedAfter, packed, first, spaces, scanned}
 use Rattle.token.specs.declared.Scanned.{Scanned}
 use Rattle.token.proofs.Split.{Split, split}
 use Rattle.token.specs.Code.Numbers.{codesAt}

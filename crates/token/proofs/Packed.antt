@@ -9,7 +9,7 @@ use borrow.Author.Tests.{eqb-true, ltb-true, ltb-false, eq-eqb, ne-eqb}
 use lib.Dec.{ltb, eqb}
 use Rattle.text.specs.Text.{same}
 use Rattle.text.proofs.Same.{same-equal, same-itself}
-use Rattle.token.specs.Next.{grown, packedAfter, packed}
+use Rattle.token.specs.Code.Next.{grown, packedAfter, packed}
 use Rattle.token.proofs.Bytes.{Bytes}
 use Rattle.word.proofs.Tests.{both}
 use Rattle.token.specs.Code.Numbers.{numeral}

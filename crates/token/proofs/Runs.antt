@@ -13,7 +13,7 @@ use Rattle.word.proofs.Tests.{both}
 use Rattle.text.specs.Text.{same}
 use Rattle.text.specs.Decimal.{digit}
 use Rattle.token.specs.Tokens.{letter, every, oneToken}
-use Rattle.token.specs.Next.{grown, packed, scanned}
+use Rattle.token.specs.Code.Next.{grown, packed, scanned}
 use Rattle.token.proofs.Packed.{packed-more}
 use Rattle.token.proofs.Scan.{Along, along-first, along-more, token-ends}
 

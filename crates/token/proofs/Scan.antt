@@ -11,7 +11,7 @@ use lib.ListN.{length, getD, length-append}
 use Rattle.text.specs.Text.{same, lineAt}
 use Rattle.text.proofs.Lines.{text-ends, line-ends, line-goes-on}
 use Rattle.token.specs.Tokens.{Token, every, oneToken, under, ended, going, tokensAfter, tokens, startedBy}
-use Rattle.token.specs.Next.{startAt, packed, first, spaces, scanned}
+use Rattle.token.specs.Code.Next.{startAt, packed, first, spaces, scanned}
 use Rattle.token.proofs.Packed.{short, known}
 use Rattle.token.proofs.Split.{tokens-first}
 use Rattle.token.specs.Code.Numbers.{numeral, BeginsSign, codeOf}

@@ -11,7 +11,7 @@ use lib.Dec.{eqb}
 use lib.ListN.{length, take, drop, length-append}
 use Rattle.text.specs.Text.{same}
 use Rattle.token.specs.Tokens.{Token, every, oneToken, under, ended, going, tokensAfter, tokens, startedBy}
-use Rattle.token.specs.Next.{first, spaces}
+use Rattle.token.specs.Code.Next.{first, spaces}
 
 -- A space is no token.
 blank : true ≡ oneToken (code " " ∷ []) → ⊥

@@ -1,3 +1,2 @@
 pub mod Tokens
-pub mod Next
 pub mod Code

@@ -5,7 +5,7 @@ ghost use mathlib.Core.Bool.{true};
 ghost use lib.ListN.{length, getD};
 ghost use Rattle.text.specs.Decimal.{digit};
 ghost use Rattle.token.specs.Tokens.{letter};
-ghost use Rattle.token.specs.Next.{grown as grownBy, startAt, scanned};
+ghost use Rattle.token.specs.Code.Next.{grown as grownBy, startAt, scanned};
 ghost use Rattle.token.specs.Code.Numbers.{decimalOf, BeginsSign};
 
 // A token as a number, and what is behind its bytes. Two numbers, since three would go by way of memory at each token.

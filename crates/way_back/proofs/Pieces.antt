@@ -10,7 +10,7 @@ use Rattle.token.specs.Tokens.{Token, letter, every, oneToken, under, ended, go
 use Rattle.part.specs.Grammar.{part}
 use Rattle.microtext.specs.Line.{cut, divided, lastPart, parts}
 use Rattle.part.specs.declared.Part.{Part}
-use Rattle.word.proofs.Tests.{both}
+use Rattle.word.proofs.Tests.{both, All}
 use Rattle.microtext.proofs.Whole.{divided-some}
 use Rattle.text.specs.Text.{same, _is_}
 use Rattle.text.specs.Decimal.{digit}
@@ -114,11 +114,6 @@ tokens-spread [] = refl
 tokens-spread (p ∷ ps) =
     tokens-split (32 ∷ p) [] 59 (spaced ps) refl
     ∙ ap₂ (λ (x y : List Token). x ++ y) (space-first p) (sign-first 59 (signs .1) ps ∙ ap (λ (x : List Token). (59 ∷ []) ∷ x) (tokens-spread ps))
-
--- A property of all in a list.
-abbrev pub All : {A : Type 0} → (A → Type 0) → List A → Type 0
-All P [] = Unit {0}
-All P (x ∷ xs) = P x × All P xs
 
 -- Divided at the semicolons they are the parts again, with nothing behind the last.
 semicolon : (ps : List (List Token)) → (p : List Token) × (qs : List (List Token)) × (ps ≡ p ∷ qs) → cut (59 ∷ []) ps ≡ [] ∷ ps

@@ -13,13 +13,13 @@ use Rattle.microword.specs.Microword.{fieldsOf, badWord, normalForm}
 use Rattle.microword.proofs.Laws.{fields-within}
 use Rattle.microtext.specs.Listing as listing
 use Rattle.microtext.specs.Listing.{upTo, shown}
-use Rattle.word.proofs.Tests.{both}
+use Rattle.word.proofs.Tests.{both, All}
 use Rattle.microassembler.specs.Assembled.{laid, onward, filled, zeroWords, assembled}
 use Rattle.microassembler.proofs.Filled.{by-lines}
 use Rattle.text.specs.Text.{prefixed, lines}
 use Rattle.text.specs.Decimal.{shortDecimal}
 use Rattle.way_back.proofs.Printed.{unbroken, number-back}
-use Rattle.way_back.proofs.Pieces.{All, spaced}
+use Rattle.way_back.proofs.Pieces.{spaced}
 use Rattle.way_back.proofs.Relisted.{texts, texts-each, texts-few, body, body-spaced, line-back}
 
 -- Lines of a listing.

@@ -9,7 +9,8 @@ use lib.Dec.{leb, ltb, eqb}
 use lib.ListN.{length}
 use Rattle.microword.specs.Microword.{fieldsOf, wordOf, badWord, idle, binary, normalFields, normalForm}
 use Rattle.microword.specs.declared.Fields.{Fields}
-use Rattle.microword.proofs.Laws.{Within, fields-within}
+use Rattle.microword.proofs.Laws.{fields-within}
+use Rattle.microword.specs.Code.Within.{Within}
 use Rattle.token.specs.Tokens.{Token, tokens}
 use Rattle.part.specs.Grammar.{part}
 use Rattle.microtext.specs.Line.{someForeign, add, nothing, given, clash, settled, meaning, divided, parts, behindNumber, numbered, line, hasJump, hasTransfer}
@@ -17,11 +18,11 @@ use Rattle.microtext.specs.Listing as listing
 use Rattle.part.specs.declared.Part.{Part}
 use Rattle.part.specs.declared.Part.the-variants.{Operation, Transfer, Jump}
 use Rattle.microtext.specs.declared.Meaning.the-variants.{Word}
-use Rattle.word.proofs.Tests.{neither}
+use Rattle.word.proofs.Tests.{neither, All}
 use Rattle.text.specs.Text.{bytes, same}
 use Rattle.text.specs.Decimal.{fromDecimal, shortDecimal}
 use Rattle.way_back.proofs.Printed.{Back, second, target, operation-back, rd-back, wr-back, jump-back, number-back, undivided}
-use Rattle.way_back.proofs.Pieces.{All, spaced, tokens-split, colon-first, parts-back}
+use Rattle.way_back.proofs.Pieces.{spaced, tokens-split, colon-first, parts-back}
 
 -- Something that is there or not.
 abbrev pub when : {A : Type 0} → Bool → A → List A

@@ -1,8 +1,9 @@
 -- Tests and choices, once for the whole house: what a conjunction and a disjunction say of their halves, what holds of both sides of a
--- choice, a table of cases, and a test of every number below a bound.
+-- choice, a table of cases, a test of every number below a bound, and what holds of all in a list.
 use Prim.Native.Nat.{ℕ, zero, suc, _<_}
-use mathlib.Core.Path.{_≡_, refl, sym, ap, _∙_}
-use mathlib.Core.Bool.{Bool, true, false, cond, not, _&&_, _||_, true≢false}
+use mathlib.Core.Path.{_≡_, refl, ap, _∙_}
+use mathlib.Core.Bool.{Bool, true, false, cond, _&&_, _||_, true≢false}
+use mathlib.Core.List.{List, [], _∷_}
 use native.Mathlib.Decide.{ℕ-discrete}
 use native.Mathlib.Omega.{arith}
 use borrow.Author.Tests.{eqb-true, eqb-false}
@@ -16,14 +17,6 @@ both false false e = (e, e)
 pub neither : (a b : Bool) → (a || b) ≡ false → (a ≡ false) × (b ≡ false)
 neither true b e = absurd (true≢false e)
 neither false b e = (refl, e)
-
-pub not-true : (a : Bool) → not a ≡ true → a ≡ false
-not-true true e = absurd (true≢false (sym e))
-not-true false e = refl
-
-pub not-false : (a : Bool) → not a ≡ false → a ≡ true
-not-false true e = refl
-not-false false e = absurd (true≢false e)
 
 -- What holds of both sides holds of the choice.
 pub either : {A : Type 0} (P : A → Type 0) (t : Bool) {x y : A} → P x → P y → P (cond t x y)
@@ -57,3 +50,8 @@ pub data Each (P : ℕ → Type 0) : ℕ → Type 0 where
 pub each : {P : ℕ → Type 0} {n : ℕ} → Each P n → (k : ℕ) → k < n → P k
 each none k h = let z : ⊥ = omega arith in absurd z
 each {P} (_also_ {n} ps p) k h = elim (ℕ-discrete k n) [ yes e ↦ rw e p | no d ↦ each ps k (omega arith) ]
+
+-- A property of all in a list.
+abbrev pub All : {A : Type 0} → (A → Type 0) → List A → Type 0
+All P [] = Unit {0}
+All P (x ∷ xs) = P x × All P xs

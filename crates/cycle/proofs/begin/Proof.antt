@@ -6,7 +6,8 @@ use borrow.Author.Needs.{needs}
 use lib.ListN.{getD}
 use Rattle.microword.specs.declared.Fields.{Fields}
 use Rattle.microword.specs.Microword.{fieldsOf}
-use Rattle.microword.proofs.Laws.{Within, fields-within}
+use Rattle.microword.proofs.Laws.{fields-within}
+use Rattle.microword.specs.Code.Within.{Within}
 use Rattle.cycle.specs.Cycle.{result, stored, nextLine}
 use Rattle.cycle.specs.Code.Standing.{beginning, beginningOn}
 use Rattle.cycle.proofs.begin.Statement.{statement}

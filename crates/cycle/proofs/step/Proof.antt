@@ -1,9 +1,9 @@
 -- `step`: after its beginning a cycle goes on by its transfer; without RD and WR nothing is transferred, and a refused cycle puts back
 -- what stood in S.
 use mathlib.Core.Path.{sym, _∙_}
+use borrow.Author.Tests.{not-true, not-false}
 use borrow.Author.Needs.{needs}
-use Rattle.word.proofs.Tests.{not-true, not-false}
-use Rattle.cycle.proofs.Laws.{small, rests, carried, refused}
+use Rattle.cycle.proofs.Laws.{began-within, rests, carried, refused}
 use Rattle.cycle.proofs.step.Statement.{statement}
 use Rattle.cycle.proofs.step.Tie as tie
 
@@ -38,7 +38,7 @@ element-write-registers : tie.Need-element-write-registers
 element-write-registers c =
     let back = c .before .before .before .before .before .before .before in
     let further = back .before .before .before .before .before .before .before in
-    small _ _ _ (further .before .before .before .before .before .begin .ensures) .s
+    began-within _ _ _ (further .before .before .before .before .before .begin .ensures) .s
 
 same-length : tie.Need-same-length
 same-length c = search needs

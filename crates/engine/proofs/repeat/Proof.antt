@@ -1,12 +1,12 @@
 -- `repeat`: what is left to do, with the cycles done, comes to what the whole run comes to.
 use native.Mathlib.Omega.{arith}
 use mathlib.Core.Path.{_≡_, refl, sym, _∙_}
+use borrow.Author.Tests.{not-true, not-false}
 use borrow.Author.Needs.{needs}
 use mathlib.Core.List.{List}
-use Prim.Native.Nat.{ℕ, _≤_, _<_, _-_}
+use Prim.Native.Nat.{ℕ, _≤_, _-_}
 use lib.ListN.{length}
 use Rattle.word.specs.declared.Line.{Line}
-use Rattle.word.proofs.Tests.{not-true, not-false}
 use Rattle.turns.specs.Turns.{plus}
 use Rattle.datapath.specs.declared.Half.{Half}
 use Rattle.cycle.specs.Cycle.{State}

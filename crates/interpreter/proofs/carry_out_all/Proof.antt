@@ -11,8 +11,7 @@ use Rattle.bus.specs.Stops.{number}
 use Rattle.instruction.proofs.Laws.{paid}
 use Rattle.interpreter.proofs.Laws.{stops, ends}
 use Rattle.interpreter.proofs.BelowPorts.{stage-on}
-use borrow.Author.Tests.{eqb-true}
-use Rattle.word.proofs.Tests.{not-true, not-false}
+use borrow.Author.Tests.{eqb-true, not-true, not-false}
 use Rattle.turns.specs.Turns.{plus}
 use Rattle.interpreter.specs.Run.{instructions}
 use Rattle.instruction.specs.Instruction.{stateOf}

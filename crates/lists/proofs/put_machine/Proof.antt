@@ -1,8 +1,8 @@
 -- `put_machine` makes the test of `refuses`.
 use mathlib.Core.Path.{_≡_}
 use mathlib.Core.Bool.{true, false}
+use borrow.Author.Tests.{not-true, not-false}
 use borrow.Author.Needs.{needs}
-use Rattle.word.proofs.Tests.{not-true, not-false}
 use Rattle.lists.specs.Engine.{refuses}
 use Rattle.lists.proofs.put_machine.Statement.{statement}
 use Rattle.lists.proofs.put_machine.Tie as tie

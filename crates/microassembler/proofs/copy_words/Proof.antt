@@ -3,7 +3,7 @@ use borrow.Author.Needs.{needs}
 use mathlib.Core.List.{List, [], _∷_, _++_}
 use Prim.Native.Nat.{ℕ, _+_, _-_, _≤_, _<_}
 use mathlib.Core.Path.{_≡_, refl, sym, ap, _∙_}
-use lib.ListN.{length, getD, take, length-set}
+use lib.ListN.{length, getD, take}
 use denote.Ref.{now}
 use native.Mathlib.Numerals.{add-one}
 use lib.Seq.{take-suc-set, take-suc, take-all}

@@ -11,9 +11,10 @@ use Rattle.text.specs.Laid.{Wrote}
 use Rattle.text.proofs.Laid.{_then_, same-text}
 use Rattle.text.specs.Decimal.{shortDecimal}
 use Rattle.microline.specs.Line.{laidLine}
-use Rattle.microline.proofs.Laws.{small, line-pieces, line-room, laid-line}
+use Rattle.microline.proofs.Laws.{line-pieces, line-room, laid-line}
 use Rattle.microline.proofs.put_line.Statement.{statement}
-use Rattle.microline.specs.Code.Pieces.{Small}
+use Rattle.microword.proofs.Laws.{fields-within}
+use Rattle.microword.specs.Code.Within.{Within}
 use Rattle.microline.proofs.put_line.Tie as tie
 
 returns : tie.Need-returns
@@ -30,13 +31,13 @@ fields-of-requires c κs = search needs
 put-number-requires : tie.Need-put-number-requires
 put-number-requires c κs = let f = c .before in
     let number = f .before .before .before .before .args .number in
-    let fields : Small (f .fields-of .result) = rw (f .fields-of .ensures) (small _) in
+    let fields : Within (f .fields-of .result) = rw (f .fields-of .ensures) (fields-within _) in
     (omega arith, omega (arith, line-room number (f .fields-of .result) (fields .sq)))
 
 put-parts-requires : tie.Need-put-parts-requires
 put-parts-requires c κs = let f = c .before .before .before .before .before in
     let number = f .before .before .before .before .args .number in
-    let fields : Small (f .fields-of .result) = rw (f .fields-of .ensures) (small _) in
+    let fields : Within (f .fields-of .result) = rw (f .fields-of .ensures) (fields-within _) in
     let n = c .before .before .before .put-number in
     (fields, omega (arith, n .ensures .behind, n .kept .0, f .before .before .if1 .left, length-append (shortDecimal number) (58 ∷ []), line-room number (f .fields-of .result) (fields .sq)))
 
@@ -46,7 +47,7 @@ put-target-requires c κs =
     let earlier = back .before in
     let f = earlier .before in
     let number = f .before .before .before .before .args .number in
-    let fields : Small (f .fields-of .result) = rw (f .fields-of .ensures) (small _) in
+    let fields : Within (f .fields-of .result) = rw (f .fields-of .ensures) (fields-within _) in
     let n = c .before .before .before .before .before .before .before .put-number in
     let p = c .before .before .before .put-parts in
     (fields, omega (arith, n .ensures .behind, n .kept .0, p .ensures .behind, p .kept .0, f .before .before .if1 .left, length-append (shortDecimal number) (58 ∷ []), line-room number (f .fields-of .result) (fields .sq)))
@@ -57,7 +58,7 @@ slice-write-room c =
     let earlier = back .before in
     let f = earlier .before .before .before .before in
     let number = f .before .before .before .before .args .number in
-    let fields : Small (f .fields-of .result) = rw (f .fields-of .ensures) (small _) in
+    let fields : Within (f .fields-of .result) = rw (f .fields-of .ensures) (fields-within _) in
     let n = earlier .before .before .put-number in
     let p = c .before .before .before .before .before .before .put-parts in
     let t = c .before .before .put-target in
@@ -83,7 +84,7 @@ returns-3 c =
     let earlier = back .before in
     let f = earlier .before .before .before .before in
     let number = f .before .before .before .before .args .number in
-    let fields : Small (f .fields-of .result) = rw (f .fields-of .ensures) (small _) in
+    let fields : Within (f .fields-of .result) = rw (f .fields-of .ensures) (fields-within _) in
     let t = c .before .before .put-target in
     let end : Wrote (t .last .0) (t .result) (10 ∷ []) (set (t .last .0) (t .result) 10) (t .result + 1) = record { stored = refl; behind = refl } in
     let word = f .before .before .before .before .args .word in

@@ -12,15 +12,6 @@ use Rattle.microword.specs.declared.Fields.{Fields}
 use Rattle.text.specs.Text.{bytes}
 use Rattle.text.specs.Decimal.{shortDecimal}
 
--- Fields of the widths that a control word has.
-pub record Small (m : Fields) : Type 0 where
-  pub a : m .a < 8
-  pub b : m .b < 8
-  pub s : m .s < 8
-  pub f : m .f < 8
-  pub sq : m .sq < 4
-  pub end : m .end < 64
-
 -- Where an operation stores, with the space before and the sign behind.
 abbrev pub stores : List ℕ → List ℕ
 stores name = bytes " " ++ name ++ bytes ":="

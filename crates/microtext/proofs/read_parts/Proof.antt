@@ -4,7 +4,7 @@ use mathlib.Core.Path.{ap, ap₂, _∙_}
 use Prim.Native.Nat.{ℕ}
 use borrow.Author.Needs.{needs}
 use lib.ListN.{length}
-use Rattle.text.specs.Text.{pastEnd}
+use Rattle.text.specs.Text.{behindLine}
 use Rattle.microtext.proofs.Reached.{Reached, reached-start, reached-next, reached-end, remaining, remaining-less}
 use Rattle.microtext.specs.Reading.{reading}
 use Rattle.microtext.proofs.read_parts.Statement.{statement}
@@ -45,8 +45,8 @@ loop-again c =
 concluded-requires : tie.Need-concluded-requires Inv-loop μ-loop
 concluded-requires c κs = search needs
 
-past-end-requires : tie.Need-past-end-requires Inv-loop μ-loop
-past-end-requires c κs = search needs
+behind-line-requires : tie.Need-behind-line-requires Inv-loop μ-loop
+behind-line-requires c κs = search needs
 
 as-reading-requires : tie.Need-as-reading-requires Inv-loop μ-loop
 as-reading-requires c κs = search needs
@@ -59,7 +59,7 @@ returns c =
     let e = reached-end (now (s .args .text)) (s .args .at) (l .parts) (l .next) (l .inv) (c .before .before .before .if1 .left) in
     c .as-reading .ensures
     ∙ ap₂ reading (c .before .before .concluded .ensures ∙ ap concluded (e .0))
-    (c .before .past-end .ensures ∙ ap (λ (n : ℕ). pastEnd n (length (now (s .args .text)))) (e .1))
+    (c .before .behind-line .ensures ∙ ap (λ (n : ℕ). behindLine n (length (now (s .args .text)))) (e .1))
 
 pub read-parts-spec : {M : Type 1} → statement M
 read-parts-spec =
@@ -74,6 +74,6 @@ read-parts-spec =
     loop-less
     loop-again
     concluded-requires
-    past-end-requires
+    behind-line-requires
     as-reading-requires
     returns)

@@ -4,7 +4,7 @@ use mathlib.Core.Path.{_≡_, refl, sym, _∙_}
 use native.Mathlib.Omega.{arith}
 use lib.ListN.{length}
 use denote.Ref.{now}
-use Rattle.token.specs.Next.{startAt, scanned}
+use Rattle.token.specs.Code.Next.{startAt, scanned}
 use Rattle.token.proofs.Scan.{one-space, space-passed, starts-here}
 use Rattle.token.proofs.start.Statement.{statement}
 use Rattle.token.proofs.start.Tie as tie

@@ -9,7 +9,7 @@ use lib.Dec.{leb, eqb}
 use Rattle.text.specs.Text.{bytes, lineAt}
 use Rattle.text.specs.Decimal.{digit}
 use Rattle.token.specs.Tokens.{letter, tokens}
-use Rattle.token.specs.Next.{packed}
+use Rattle.token.specs.Code.Next.{packed}
 
 -- Bytes behind a 1, as the digits of one number to the base 256.
 abbrev pub numeral : ℕ → List ℕ → ℕ

@@ -1,4 +1,5 @@
--- A token as a number, and the next token of a line: what `start` and `next_token` promise. The token's bytes stand in between.
+-- Mirrors the code: a token as a number, and the next token of a line, as `start` and `next_token` promise it; its bytes stand in between. What tokens
+-- are is in Tokens.
 use Prim.Native.Nat.{ℕ, suc, _+_, _*_, _^_}
 use Prim.Native.Char.{code}
 use mathlib.Core.Bool.{cond}
