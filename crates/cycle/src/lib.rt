@@ -92,7 +92,7 @@ fn begin(word: u32, line: Line, registers: &mut [u16; 8]) -> Begun
     Begun { m, next, old }
 }
 
-// One cycle, driven by a control word, in place; a refused one leaves everything as it was.
+// One cycle, driven by a control word, on what is lent; a refused one leaves everything as it was.
 pub fn step(
     word: u32,
     memory: &mut [u16],

@@ -20,7 +20,7 @@ halfNumber Nothing = 0
 halfNumber Read = 1
 halfNumber Write = 2
 
--- A half done above 2 and a line above 63 have no place in the machine: they go as line 64, which the engine refuses by 3, in its order.
+-- A half done above 2 and a line above 63 are none of the machine's: they go as line 64, which the engine refuses by 3, in its order.
 unfoldable pub lineOf : ℕ → ℕ → ℕ
 lineOf line half = cond (ltb 2 half) 64 (cond (ltb line 64) line 64)
 

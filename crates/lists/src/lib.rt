@@ -38,7 +38,7 @@ fn half_number(half: Half) -> usize
     }
 }
 
-// The control line for the engine, 64 where the line or half done has no place in its machine.
+// The control line for the engine, 64 where its machine has no such line or half done.
 fn line_of(line: usize, half: usize) -> Line
     ensures { λ r. ⌜ r .0 ≡ lineOf line half ⌝ }
 {
