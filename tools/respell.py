@@ -3,7 +3,7 @@
 
 usage: tools/respell.py [--check] [FOLDER]
 
-A name that a file of specs/ or proofs/ declares, in camel case (bytesOf) or with dashes (kept-below), gets underscores (bytes_of, kept_below).
+A name that a file of specs/ or proofs/ declares or brings in under another name (`as`), in camel case (bytesOf) or with dashes (kept-below), gets underscores (bytes_of, kept_below).
 What answers a goal (its type begins with `tie.` or `goal.`) keeps the name that Rattle gives it, and so does what the library declares.
 A local name with a middle dot (Lib·length) gets an underscore after a lower-case beginning (lib_length).
 Written: crates/*/specs, proofs, src (clauses and comments; no Rust name is of either form), must-fail edits, and the pages' code spans.
@@ -32,7 +32,11 @@ LEMMAS = {
 
 
 # A name that would meet another in its file.
-APART = {"crates/token/proofs/Packed.antt": {"all-bytes": "all_bytes_lem"}}
+APART = {
+    "crates/token/proofs/Packed.antt": {"all-bytes": "all_bytes_lem"},
+    "crates/facetgrove/proofs/Refused.antt": {"Interpreter-as-State": "InterpreterState"},
+    "crates/console/proofs/Laws.antt": {"lastDigits": "digits_of_io"},
+}
 
 
 def files(top, *patterns):
@@ -57,6 +61,7 @@ def declared(texts):
             m = HEAD.match(re.sub(r"(^|\s)--.*", "", line))
             if m and not re.match(r"(?:tie|goal)\.", m[4] or ""):
                 names.add(m[3])
+        names |= {m[1] for use in re.finditer(r"\buse [^{};\n]+\{([^}]*)\}", text) for m in re.finditer(r" as ([^\s,]+)", use[1])}
     return names
 
 
@@ -78,14 +83,14 @@ def main(argv):
     edits = {p: text_of(p) for p in files(top, "crates/*/must-fail/*.edit")}
     pages = {p: text_of(p) for p in files(top, *PAGES)}
     library = imported(proofs | sources)
-    table = {it: snake(it) for it in declared(proofs) if (DASHED.fullmatch(it) or CAMEL.fullmatch(it)) and it not in library}
+    table = {it: snake(it) for it in declared(proofs | sources) if (DASHED.fullmatch(it) or CAMEL.fullmatch(it)) and it not in library}
     for text in (proofs | sources).values():
         for m in re.finditer(r"[\w]+·[\w]+", text):
             if not m[0].startswith("Rattle"):
                 table[m[0]] = "_".join(snake(part[0].lower() + part[1:]) for part in m[0].split("·"))
     lemmas = {a: b + "_lem" for a, b in table.items() if "-" in a and any(b == table[c] for c in table if "-" not in c)}
     table |= lemmas
-    known = {table.get(it, it) for it in declared(proofs)}
+    known = {table.get(it, it) for it in declared(proofs | sources)}
     tokens = collections.defaultdict(set)
     for p, text in (proofs | sources).items():
         for w in WORD.findall(text):

@@ -11,7 +11,7 @@ use borrow.Author.Tests.{lt-ltb, le-ltb, ltb-true, ltb-false}
 use lib.ListN.{length, get_or, take, drop, set, length-append, drop_of_length-le}
 use lib.Seq.{drop-cons, take-append_seam}
 use Rattle.io.specs.Counts.{IsPrefixLen}
-use Rattle.io.specs.Digits.{last_digits as lastDigits, IsDigitCount}
+use Rattle.io.specs.Digits.{last_digits as digits_of_io, IsDigitCount}
 use Rattle.text.specs.Laid.{Wrote}
 use Rattle.text.proofs.Laid.{◌then◌, all_of}
 use Rattle.text.specs.Decimal.{digits, decimal}
@@ -19,7 +19,7 @@ use Rattle.console.specs.Text.{signed, lines}
 use Rattle.console.specs.Code.Shown.{Shown, shown}
 
 -- The fewest digits that hold a number are those of its decimal.
-spelt : (k most n : ℕ) → suc k ≤ most → n < 10 ^ suc k → (0 < k → 10 ^ k ≤ n) → lastDigits 10 (suc k) n ≡ digits most n
+spelt : (k most n : ℕ) → suc k ≤ most → n < 10 ^ suc k → (0 < k → 10 ^ k ≤ n) → digits_of_io 10 (suc k) n ≡ digits most n
 unfolding digits
 spelt k zero n h below above = absurd (omega arith)
 spelt zero (suc most) n h below above = rw (lt-ltb (n % 10) 10 (mod-lt n (omega arith)), lt-ltb n 10 below)
@@ -42,7 +42,7 @@ short k n wide f = go (ltb 20 k) refl
         absurd (omega (arith, f.2 (omega arith)))
     go false e = ltb-false 20 k e
 
-pub fewest : (k n : ℕ) → n < 2 ^ 64 → IsDigitCount 10 1 n k → lastDigits 10 k n ≡ decimal n
+pub fewest : (k n : ℕ) → n < 2 ^ 64 → IsDigitCount 10 1 n k → digits_of_io 10 k n ≡ decimal n
 fewest zero n wide f = absurd (omega (arith, f.0))
 fewest (suc k) n wide f =
     let e : suc k - 1 ≡ k = omega arith in

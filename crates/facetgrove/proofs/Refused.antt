@@ -16,12 +16,12 @@ use Rattle.store.specs.Store.{control_word}
 use Rattle.cycle.specs.Cycle.{State}
 use Rattle.cycle.proofs.Writes.{cycle_kind}
 use Rattle.engine.specs.Run.{refusal, cycle, ended, runs, state_of}
-use Rattle.instruction.specs.Instruction.{State as Interpreter-as-State, instruct, state_of as interpreter_state_of}
+use Rattle.instruction.specs.Instruction.{State as InterpreterState, instruct, state_of as interpreter_state_of}
 use Rattle.instruction.proofs.Laws.{instruct_kind}
 use Rattle.interpreter.specs.Run.{refusal as interpreter_refusal, runs as interpreter_runs}
 use Rattle.lists.specs.Called.{Called}
 use Rattle.lists.specs.Engine.{line_of, machine_of, refuses, leaves}
-use Rattle.lists.specs.Interpreter.{cpu_of, leaves as interpreter-leaves}
+use Rattle.lists.specs.Interpreter.{cpu_of, leaves as interpreter_leaves}
 use Rattle.facetgrove.specs.Runs.{engine_called, interpreter_called}
 
 -- A run that answers 1 to 4 was refused before its first step, and did nothing: no step is refused by such a number.
@@ -90,5 +90,5 @@ module _ (input : List ℕ) (n cp ac pp place count : ℕ) (memory log : List �
       → ran ≡ record { answer = ran.answer; registers = cp ∷ ac ∷ pp ∷ []; state = place ∷ count ∷ []; memory = memory; log = log; told = 0 ∷ 0 ∷ [] }
   unfolding interpreter_called interpreter_runs
   interpreter_as_found low high =
-      let s : Interpreter-as-State = interpreter_state_of (cpu_of (cp ∷ ac ∷ pp ∷ []) (place ∷ count ∷ [])) memory log in
-      ap interpreter-leaves (refused_run (interpreter_refusal input s) (instruct input) n s (instruct_kind input) low (omega arith))
+      let s : InterpreterState = interpreter_state_of (cpu_of (cp ∷ ac ∷ pp ∷ []) (place ∷ count ∷ [])) memory log in
+      ap interpreter_leaves (refused_run (interpreter_refusal input s) (instruct input) n s (instruct_kind input) low (omega arith))

@@ -9,7 +9,7 @@ use lib.ListN.{length, set, replicate}
 use Rattle.word.proofs.Tests.{All}
 use Rattle.microword.specs.Microword.{fields_of, idle, binary, unused_clear, is_normal}
 use Rattle.store.specs.Store.{wrong_store}
-use Rattle.microtext.specs.Line.{line, number as faultNumber}
+use Rattle.microtext.specs.Line.{line, number as fault_number}
 use Rattle.microtext.specs.declared.Fault.{Fault}
 use Rattle.microtext.specs.declared.Fault.TheVariants.{ExtraLine, WrongNumber, Ungrammatical, FarTarget, WrongParts}
 use Rattle.microtext.specs.declared.Meaning.{Meaning}
@@ -21,7 +21,7 @@ use Rattle.microassembler.specs.declared.Answer.TheVariants.{Done, WrongSize, Lo
 use Rattle.microassembler.proofs.Normal.{line_normal}
 
 -- A faulty line has a number of its own, and so has every answer.
-fault_told : (f : Fault) → faultNumber f ≡ 0 → ⊥
+fault_told : (f : Fault) → fault_number f ≡ 0 → ⊥
 fault_told ExtraLine e = omega arith
 fault_told WrongNumber e = omega arith
 fault_told Ungrammatical e = omega arith

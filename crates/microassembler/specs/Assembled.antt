@@ -1,7 +1,7 @@
 -- Micro text to a control store, or a refusal (01, Micro text and images; answers 0, 1, 10 to 15).
 use Rattle.std.specs.Prelude.{ℕ, suc, cond, List, [], ◌∷◌, leb, length, replicate}
 use Rattle.store.specs.Store.{wrong_store, with_word}
-use Rattle.microtext.specs.Line.{line, number as faultNumber}
+use Rattle.microtext.specs.Line.{line, number as fault_number}
 use Rattle.microtext.specs.declared.Fault.{Fault}
 use Rattle.microtext.specs.declared.Meaning.{Meaning}
 use Rattle.microtext.specs.declared.Meaning.TheVariants.{Word, Refused as RefusedLine}
@@ -14,7 +14,7 @@ abbrev pub number : Answer → ℕ
 number Done = 0
 number WrongSize = 1
 number LongText = 10
-number (Refused fault) = faultNumber fault
+number (Refused fault) = fault_number fault
 
 -- The words of a text's lines, or the fault of one.
 pub data Words : Type 0 where
@@ -42,7 +42,7 @@ pub record Outcome : Type 0 where
 
 abbrev pub outcome : List ℕ → Words → Outcome
 outcome store (laid ws) = record { answer = 0; store = ws }
-outcome store (faulty fault) = record { answer = faultNumber fault; store = store }
+outcome store (faulty fault) = record { answer = fault_number fault; store = store }
 
 -- The order: 1, 10, then lines in turn; a refusal leaves the store as found.
 unfoldable pub assembled : List ℕ → List ℕ → Outcome

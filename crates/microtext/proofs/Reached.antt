@@ -9,7 +9,7 @@ use lib.Dec.{eqb}
 use lib.ListN.{length}
 use Rattle.token.specs.Code.Next.{scanned}
 use Rattle.token.specs.declared.Scanned.{Scanned}
-use Rattle.token.proofs.Next.{NextToken, next as next-token}
+use Rattle.token.proofs.Next.{NextToken, next as next_token}
 use Rattle.text.specs.Text.{end_at}
 use Rattle.token.specs.Code.Numbers.{codes_at}
 use Rattle.microtext.specs.declared.Parts.{Parts}
@@ -27,14 +27,14 @@ pub record Reached (text : List ℕ) (at : ℕ) (parts : Parts) (next : Scanned)
 
 pub reached_start : (text : List ℕ) (at : ℕ) (next : Scanned) → next ≡ scanned text at → Reached text at no_parts next
 reached_start text at next e =
-    let n : NextToken text at next = next-token text at next e in
+    let n : NextToken text at next = next_token text at next e in
     record { all = ap (all_taken no_parts) (sym n.codes); line_end = n.line_end; none = n.none; inside = λ e. (n.some e).1 }
 
 pub reached_next : (text : List ℕ) (at : ℕ) (parts parts' : Parts) (next next' : Scanned) → Reached text at parts next → (next.token ≡ 1 → ⊥)
     → parts' ≡ taken parts next.token → next' ≡ scanned text next.behind → Reached text at parts' next'
 unfolding all_taken
 reached_next text at parts parts' next next' r e p q =
-    let n : NextToken text next.behind next' = next-token text next.behind next' q in
+    let n : NextToken text next.behind next' = next_token text next.behind next' q in
     let a : all_taken parts (next.token ∷ codes_at text next.behind) ≡ all_taken no_parts (codes_at text at) = rw (ne_eqb next.token 1 e) at r.all in
     record {
       all = ap (all_taken parts') (sym n.codes) ∙ ap (λ (x : Parts). all_taken x (codes_at text next.behind)) p ∙ a;
@@ -57,7 +57,7 @@ pub remaining_less : (text : List ℕ) (at : ℕ) (parts : Parts) (next next' : 
 remaining_less text at parts next next' r e p = rw (ne_eqb next.token 1 e) (go (eqb next'.token 1) refl (r.inside e))
   where
     n : NextToken text next.behind next'
-    n = next-token text next.behind next' p
+    n = next_token text next.behind next' p
 
     go : (b : Bool) → eqb next'.token 1 ≡ b → next.behind ≤ length text → cond b 0 (length text + 1 - next'.behind) < length text + 1 - next.behind
     go true q h = omega arith

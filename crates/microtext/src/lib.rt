@@ -2,9 +2,9 @@
 ghost use Rattle.std.specs.Prelude.{◌≡◌, cond, ltb};
 ghost use Rattle.text.specs.Text.{next_line};
 ghost use Rattle.token.specs.Code.Numbers.{codes_at};
-ghost use Rattle.microtext.specs.Line.{number, foreign as foreignPart, add as addTo, clash as clashOf, settled as settledBy};
+ghost use Rattle.microtext.specs.Line.{number, foreign as foreign_part, add as add_to, clash as clash_of, settled as settled_by};
 ghost use Rattle.microtext.specs.Reading.{reading as reading_of, reading_at};
-ghost use Rattle.microtext.specs.Code.Progress.{closed as closedBy, taken as takenBy, all_taken, concluded as concludedBy, no_parts};
+ghost use Rattle.microtext.specs.Code.Progress.{closed as closed_by, taken as taken_by, all_taken, concluded as concluded_by, no_parts};
 
 use microword::Fields;
 use part::{Part, Stage};
@@ -74,7 +74,7 @@ const COLON: u64 = 0x13a;
 const SEMICOLON: u64 = 0x13b;
 
 fn is_foreign(part: Part) -> bool
-    ensures { result ≡ foreignPart part }
+    ensures { result ≡ foreign_part part }
 {
     match part {
         Part::Operation {
@@ -100,7 +100,7 @@ fn stored(to: u32, value: u32) -> u32
 }
 
 fn add_operation(g: Given, to: u32, f: u32, a: u32, b: u32) -> Given
-    ensures { result ≡ addTo g (Part.Operation to f a b) }
+    ensures { result ≡ add_to g (Part.Operation to f a b) }
 {
     let mut fields = g.fields;
     fields.a = a;
@@ -117,7 +117,7 @@ fn add_operation(g: Given, to: u32, f: u32, a: u32, b: u32) -> Given
 }
 
 fn add_transfer(g: Given, rd: u32, wr: u32) -> Given
-    ensures { result ≡ addTo g (Part.Transfer rd wr) }
+    ensures { result ≡ add_to g (Part.Transfer rd wr) }
 {
     let mut fields = g.fields;
     let twice = g.twice | ((fields.rd == 1) | (fields.wr == 1));
@@ -132,7 +132,7 @@ fn add_transfer(g: Given, rd: u32, wr: u32) -> Given
 }
 
 fn add_jump(g: Given, sq: u32, end: u32) -> Given
-    ensures { result ≡ addTo g (Part.Jump sq end) }
+    ensures { result ≡ add_to g (Part.Jump sq end) }
 {
     let mut fields = g.fields;
     let twice = g.twice | (fields.sq != 0);
@@ -148,7 +148,7 @@ fn add_jump(g: Given, sq: u32, end: u32) -> Given
 
 // What is given with one part more.
 fn add(g: Given, part: Part) -> Given
-    ensures { result ≡ addTo g part }
+    ensures { result ≡ add_to g part }
 {
     match part {
         Part::Operation { to, f, a, b } => add_operation(g, to, f, a, b),
@@ -160,7 +160,7 @@ fn add(g: Given, part: Part) -> Given
 
 // A part ends.
 fn closed(g: Given, part: Part) -> Parts
-    ensures { result ≡ closedBy g part }
+    ensures { result ≡ closed_by g part }
 {
     if is_foreign(part) {
         return Parts {
@@ -179,7 +179,7 @@ fn closed(g: Given, part: Part) -> Parts
 
 // One token more of the parts of a line.
 fn taken(parts: Parts, t: u64) -> Parts
-    ensures { result ≡ takenBy parts t }
+    ensures { result ≡ taken_by parts t }
 {
     let given = parts.given;
     let stage = parts.stage;
@@ -195,7 +195,7 @@ fn taken(parts: Parts, t: u64) -> Parts
 
 // 15: a kind of part given twice, rd with wr, a test with no operation, alu with no test.
 fn clash(g: Given) -> bool
-    ensures { result ≡ clashOf g }
+    ensures { result ≡ clash_of g }
 {
     let fields = g.fields;
     let test = (fields.sq == 1) | (fields.sq == 2);
@@ -203,7 +203,7 @@ fn clash(g: Given) -> bool
 }
 
 fn settled(g: Given) -> Meaning
-    ensures { result ≡ settledBy g }
+    ensures { result ≡ settled_by g }
 {
     if g.far {
         return Meaning::Refused(Fault::FarTarget);
@@ -217,7 +217,7 @@ fn settled(g: Given) -> Meaning
 
 // The parts at the end of their line.
 fn concluded(parts: Parts) -> Meaning
-    ensures { result ≡ concludedBy parts }
+    ensures { result ≡ concluded_by parts }
 {
     let given = parts.given;
     let stage = parts.stage;
@@ -242,7 +242,7 @@ fn as_reading(meaning: Meaning, next: usize) -> Reading
 
 // The parts of the line that goes on at `at`.
 fn read_parts(text: &[u8], at: usize) -> Reading
-    ensures { result ≡ reading_of (concludedBy (all_taken no_parts (codes_at text.now at))) (next_line text.now at) }
+    ensures { result ≡ reading_of (concluded_by (all_taken no_parts (codes_at text.now at))) (next_line text.now at) }
 {
     let mut parts = Parts {
         given: Given {

@@ -1,6 +1,6 @@
 // A part of a line of micro text, token by token: how far it has been read, and the part that it comes to.
 ghost use Rattle.std.specs.Prelude.{◌≡◌, cond, eqb};
-ghost use Rattle.part.specs.Code.Stage.{register_of, destination_of, completed as completedBy, from_start, from_value, from_shift, from_first, from_sign, from_goto, advance as advanceTo, finished as finishedAt};
+ghost use Rattle.part.specs.Code.Stage.{register_of, destination_of, completed as completed_by, from_start, from_value, from_shift, from_first, from_sign, from_goto, advance as advance_to, finished as finished_at};
 
 // A part of a line. `to` is a register's number, or 8 where nothing is stored.
 #[derive(Drop)]
@@ -126,7 +126,7 @@ fn destination(token: u64) -> u32
 }
 
 fn completed(bracket: bool, part: Part) -> Stage
-    ensures { result ≡ completedBy bracket part }
+    ensures { result ≡ completed_by bracket part }
 {
     if bracket {
         return Stage::Closing { part };
@@ -263,7 +263,7 @@ fn expect(t: u64, wanted: u64, then: Stage) -> Stage
 }
 
 fn from_if(t: u64) -> Stage
-    ensures { result ≡ advanceTo Stage.If t }
+    ensures { result ≡ advance_to Stage.If t }
 {
     if t == N {
         return Stage::Tested { sq: 1 };
@@ -272,7 +272,7 @@ fn from_if(t: u64) -> Stage
 }
 
 fn from_assigned(to: u32, t: u64) -> Stage
-    ensures { result ≡ advanceTo (Stage.Assigned to) t }
+    ensures { result ≡ advance_to (Stage.Assigned to) t }
 {
     if t == OPEN {
         return Stage::Opened { to };
@@ -282,7 +282,7 @@ fn from_assigned(to: u32, t: u64) -> Stage
 
 // How a token moves a part along.
 pub fn advance(stage: Stage, t: u64) -> Stage
-    ensures { result ≡ advanceTo stage t }
+    ensures { result ≡ advance_to stage t }
 {
     match stage {
         Stage::Start => from_start(t),
@@ -304,7 +304,7 @@ pub fn advance(stage: Stage, t: u64) -> Stage
 
 // A register alone is a formula, unless a bracket is open.
 fn alone(bracket: bool, to: u32, a: u32) -> Part
-    ensures { result ≡ finishedAt (Stage.First bracket to a) }
+    ensures { result ≡ finished_at (Stage.First bracket to a) }
 {
     if bracket {
         return Part::Foreign;
@@ -314,7 +314,7 @@ fn alone(bracket: bool, to: u32, a: u32) -> Part
 
 // The part that ends here.
 pub fn finished(stage: Stage) -> Part
-    ensures { result ≡ finishedAt stage }
+    ensures { result ≡ finished_at stage }
 {
     match stage {
         Stage::Start => Part::Foreign,

@@ -2,7 +2,7 @@
 ghost use Rattle.std.specs.Prelude.{◌≡◌, ◌<◌, ◌^◌, true, length, get_or};
 ghost use Rattle.text.specs.Decimal.{digit};
 ghost use Rattle.token.specs.Tokens.{letter};
-ghost use Rattle.token.specs.Code.Next.{grown as grownBy, start_at, scanned};
+ghost use Rattle.token.specs.Code.Next.{grown as grown_by, start_at, scanned};
 ghost use Rattle.token.specs.Code.Numbers.{decimal_of, BeginsSign};
 
 // A token as a number, and what is behind its bytes. Two numbers, since three would go by way of memory at each token.
@@ -42,7 +42,7 @@ pub fn is_digit(c: u64) -> bool
 // A token's number with one byte more; the fifth byte is the last that counts.
 fn grown(token: u64, c: u64) -> u64
     requires { (token < 2 ^ 41) × (c < 256) }
-    ensures { (result ≡ grownBy token c) × (result < 2 ^ 41) }
+    ensures { (result ≡ grown_by token c) × (result < 2 ^ 41) }
 {
     if token < 0x2_0000_0000 {
         return token * 256 + c;

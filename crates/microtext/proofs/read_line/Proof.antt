@@ -24,7 +24,7 @@ returns-2 c =
     let s = c.before.before.before.before.before in
     let text = s.args.text.now in
     let bytes = bytes_all text (λ i. omega (arith, c.before.before.before.before.shared-slice-known.given i)) in
-    wrong_number text bytes s.args.at s.args.line.0 c.before.before.before.if1.false c.before.before.next-token.result c.before.before.next-token.ensures
+    wrong_number text bytes s.args.at s.args.line.0 c.before.before.before.if1.false c.before.before.next_token.result c.before.before.next_token.ensures
     (λ e. c.if2.true (c.before.decimal.ensures ∙ e))
 
 next-token-requires-2 : tie.Need-next-token-requires-2
@@ -37,7 +37,7 @@ returns-3 c =
     let text = s.args.text.now in
     let bytes = bytes_all text (λ i. omega (arith, c.before.before.before.before.before.before.before.shared-slice-known.given i)) in
     let n = c.before.before.before.before in
-    no_colon text bytes s.args.at s.args.line.0 n.before.before.if1.false n.before.next-token.result n.before.next-token.ensures
+    no_colon text bytes s.args.at s.args.line.0 n.before.before.if1.false n.before.next_token.result n.before.next_token.ensures
     (sym n.decimal.ensures ∙ c.before.before.before.if2.false) c.before.before.next-token2.result c.before.before.next-token2.ensures c.if3.true
 
 read-parts-requires : tie.Need-read-parts-requires
@@ -52,7 +52,7 @@ returns-4 c =
     let bytes = bytes_all text (λ i. omega (arith, back.before.shared-slice-known.given i)) in
     let n = c.before.before.before.before.before in
     c.read-parts.ensures
-    ∙ with_parts text bytes s.args.at s.args.line.0 n.before.before.if1.false n.before.next-token.result n.before.next-token.ensures
+    ∙ with_parts text bytes s.args.at s.args.line.0 n.before.before.if1.false n.before.next_token.result n.before.next_token.ensures
     (sym n.decimal.ensures ∙ c.before.before.before.before.if2.false) c.before.before.before.next-token2.result c.before.before.before.next-token2.ensures
     c.before.if3.false
 

@@ -20,7 +20,7 @@ next-token-requires : tie.Need-next-token-requires invariant-loop decreases-loop
 next-token-requires c κs = search rules
 
 loop-holds : tie.Need-loop-init invariant-loop decreases-loop
-loop-holds c = reached_start c.before.before.args.text.now c.before.before.args.at c.next-token.result c.next-token.ensures
+loop-holds c = reached_start c.before.before.args.text.now c.before.before.args.at c.next_token.result c.next_token.ensures
 
 taken-requires : tie.Need-taken-requires invariant-loop decreases-loop
 taken-requires c κs = search rules
