@@ -1,4 +1,5 @@
 // What the two programs share: standard input read to its end, the texts that they print as bytes in a lent room, and standard output.
+#![tactic(auto)]
 ghost use Rattle.std.specs.Prelude.{◌≡◌, List, [], ◌∷◌, ◌++◌, ℕ, ◌+◌, ◌*◌, ◌≤◌, length, take};
 ghost use Rattle.text.specs.Laid.{Wrote};
 ghost use Rattle.text.specs.Decimal.{decimal};
@@ -12,14 +13,14 @@ use word::Address;
 const ROOM: usize = 512;
 
 // What came of reading: how many bytes stand at the front of the buffer, and whether a read failed behind them.
-#[derive(Drop)]
+#[derive(Clone, Copy)]
 pub struct Input {
     pub length: usize,
     pub failed: bool,
 }
 
 // What the report of a run tells beside the log's words.
-#[derive(Drop)]
+#[derive(Clone, Copy)]
 pub struct Run {
     pub answer: u32,
     pub done: u32,

@@ -1,4 +1,5 @@
 // One cycle of the machine, driven by one control word.
+#![tactic(auto)]
 ghost use Rattle.std.specs.Prelude.{◌≡◌, cond, eqb, set, ◌<◌};
 ghost use Rattle.bus.specs.declared.Stop.TheVariants.{GoesOn};
 ghost use Rattle.datapath.specs.declared.Half.TheVariants.{Nothing};
@@ -15,7 +16,7 @@ const REM: usize = 6;
 const RDM: usize = 7;
 
 // What a cycle leaves beside registers, memory and log, and what stops it.
-#[derive(Drop)]
+#[derive(Clone, Copy)]
 pub struct Stepped {
     pub line: Line,
     pub half: Half,
@@ -68,7 +69,7 @@ fn rest(line: Line, place: usize, count: usize) -> Stepped
 }
 
 // What a cycle has once it has stored: the fields of its word, the line that follows, and what stood in S.
-#[derive(Drop)]
+#[derive(Clone, Copy)]
 struct Begun {
     m: Fields,
     next: Line,

@@ -1,4 +1,5 @@
 // What any control word drives: the ALU, what a register keeps, the transfer that takes two cycles, and whether a test jumps.
+#![tactic(auto)]
 ghost use Rattle.std.specs.Prelude.{◌≡◌};
 ghost use Rattle.datapath.specs.Result.{alu, negative, is_zero, jumps, keeps};
 ghost use Rattle.datapath.specs.Transfer.{read_cycle, write_cycle, transferred, moved};
@@ -11,7 +12,7 @@ use word::Address;
 const KEPT: [u16; 8] = [4095, 65535, 4095, 65535, 65535, 65535, 4095, 65535];
 
 // What a cycle leaves half done.
-#[derive(Drop)]
+#[derive(Clone, Copy)]
 pub enum Half {
     Nothing,
     Read,
@@ -19,7 +20,7 @@ pub enum Half {
 }
 
 // What a transfer leaves beside memory and log, and what stops the machine before it.
-#[derive(Drop)]
+#[derive(Clone, Copy)]
 pub struct Moved {
     pub rdm: u16,
     pub half: Half,

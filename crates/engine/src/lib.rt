@@ -1,4 +1,5 @@
 // The cycle engine for any control store: a run of cycles.
+#![tactic(auto)]
 ghost use Rattle.std.specs.Prelude.{◌≡◌};
 ghost use Rattle.engine.specs.Run.{number, named, saying, refusal, cycles, ended, runs, state_of, ended_by};
 
@@ -13,7 +14,7 @@ const PP: usize = 2;
 const REM: usize = 6;
 
 // The machine: its control line, its registers by number, what is half done, the input place and the log count.
-#[derive(Drop)]
+#[derive(Clone, Copy)]
 pub struct Machine {
     pub line: Line,
     pub registers: [u16; 8],
@@ -23,7 +24,7 @@ pub struct Machine {
 }
 
 // What a run comes to: it is finished, done or stopped, or was refused before its first cycle.
-#[derive(Drop)]
+#[derive(Clone, Copy)]
 pub enum Answer {
     Finished(Stop),
     WrongSize,
@@ -57,7 +58,7 @@ impl Answer {
     }
 }
 
-#[derive(Drop)]
+#[derive(Clone, Copy)]
 pub struct Ran {
     pub machine: Machine,
     pub done: u32,

@@ -1,4 +1,5 @@
 // Memory images: records of an address and a value, read into a lent memory and written from one.
+#![tactic(auto)]
 ghost use Rattle.std.specs.Prelude.{◌≡◌, false, cond, ◌∷◌, ◌+◌, ◌/◌, ◌%◌, ◌≤◌, length, drop, replicate, ltb, eqb};
 ghost use Rattle.image.specs.Answers.{number};
 ghost use Rattle.image.specs.Records.{records, bytes, fault, record_of};
@@ -17,7 +18,7 @@ const RECORDED: u16 = 4092;
 const LONGEST: usize = 16368;
 
 // The answers of reader and writer.
-#[derive(Drop)]
+#[derive(Clone, Copy)]
 pub enum Answer {
     Done,
     WrongSize,
@@ -46,14 +47,14 @@ impl Answer {
 }
 
 // The writer's answer, and the length of the image that it put; 0 on a refusal.
-#[derive(Drop)]
+#[derive(Clone, Copy)]
 pub struct Written {
     pub answer: Answer,
     pub length: usize,
 }
 
 // A record of an image.
-#[derive(Drop)]
+#[derive(Clone, Copy)]
 struct Record {
     address: Address,
     value: u16,

@@ -1,4 +1,5 @@
 // The direct interpreter: a run of instructions.
+#![tactic(auto)]
 ghost use Rattle.std.specs.Prelude.{◌≡◌, true, false, ◌≤◌, ◌<◌, length, get_or};
 ghost use Rattle.word.specs.Number.{kept, sum, difference};
 ghost use Rattle.instruction.specs.Instruction.{gains, branches, stores, action, instruct, state_of};
@@ -13,7 +14,7 @@ use word::Address;
 const PORTS: u16 = 4092;
 
 // What a run comes to: it is finished, done or stopped, or was refused before its first instruction.
-#[derive(Drop)]
+#[derive(Clone, Copy)]
 pub enum Answer {
     Finished(Stop),
     WrongSize,
@@ -36,7 +37,7 @@ impl Answer {
 }
 
 // A run: the registers at its end, the instructions carried out, the sum of their cycles, and the answer.
-#[derive(Drop)]
+#[derive(Clone, Copy)]
 pub struct Ran {
     pub cpu: Cpu,
     pub done: u32,
@@ -45,7 +46,7 @@ pub struct Ran {
 }
 
 // The registers, all that an instruction below the ports needs beside memory.
-#[derive(Drop)]
+#[derive(Clone, Copy)]
 struct Registers {
     cp: Address,
     ac: u16,
@@ -53,7 +54,7 @@ struct Registers {
 }
 
 // Such an instruction: the registers afterwards and the table's cycles; or it meets a port and is left undone.
-#[derive(Drop)]
+#[derive(Clone, Copy)]
 struct Passed {
     registers: Registers,
     met: bool,
@@ -61,7 +62,7 @@ struct Passed {
 }
 
 // Part of a run: the registers after it, how many instructions are left to do, and the cycles of those done.
-#[derive(Drop)]
+#[derive(Clone, Copy)]
 struct Stage {
     cpu: Cpu,
     left: u32,

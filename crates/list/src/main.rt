@@ -1,4 +1,5 @@
 // The list program: the 256 bytes of a control store on standard input, its listing on standard output, or the answer line.
+#![tactic(auto)]
 ghost use Rattle.std.specs.Prelude.{◌≡◌, ◌∷◌, ◌+◌, ◌≤◌, length as lib_length, take, drop};
 ghost use Rattle.io.specs.Counts.{IsPrefixLen};
 ghost use Rattle.list.specs.Listing.{words_of, with_words, told, printed};

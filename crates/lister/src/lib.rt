@@ -1,4 +1,5 @@
 // The lister: a control store into its micro text.
+#![tactic(auto)]
 ghost use Rattle.std.specs.Prelude.{◌≡◌, ◌≤◌, length, take};
 ghost use Rattle.microtext.specs.Listing.{lines, shown};
 ghost use Rattle.text.specs.Laid.{Wrote};
@@ -9,7 +10,7 @@ use microword::normal;
 use word::Line;
 
 // What a call answers; a bad word's line is named.
-#[derive(Drop)]
+#[derive(Clone, Copy)]
 pub enum Answer {
     Done,
     WrongSize,
@@ -19,7 +20,7 @@ pub enum Answer {
 }
 
 // The answer, and the listing's length.
-#[derive(Drop)]
+#[derive(Clone, Copy)]
 pub struct Listed {
     pub answer: Answer,
     pub length: usize,

@@ -1,4 +1,5 @@
 // Machine and registers as a caller's lists of numbers: what the lists stand for, and what a run hands back to them.
+#![tactic(auto)]
 ghost use Rattle.std.specs.Prelude.{◌≡◌, cond, List, ℕ, eqb};
 ghost use Rattle.engine.specs.Run.{number, ended_by};
 ghost use Rattle.interpreter.specs.Run.{ended_by as interpreter_ended_by};

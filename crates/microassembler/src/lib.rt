@@ -1,4 +1,5 @@
 // The microassembler: micro text to a control store.
+#![tactic(auto)]
 ghost use Rattle.std.specs.Prelude.{◌≡◌, length};
 ghost use Rattle.store.specs.Store.{words};
 ghost use Rattle.microassembler.specs.Assembled.{number, assembled};
@@ -6,7 +7,7 @@ ghost use Rattle.microassembler.specs.Assembled.{number, assembled};
 use microtext::{Fault, Reading};
 use word::Line;
 
-#[derive(Drop)]
+#[derive(Clone, Copy)]
 pub enum Answer {
     Done,
     WrongSize,

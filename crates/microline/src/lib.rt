@@ -1,4 +1,5 @@
 // One line of a listing: its number and the parts of a control word, put together from pieces of a table.
+#![tactic(auto)]
 ghost use Rattle.std.specs.Prelude.{◌≡◌, [], ◌∷◌, ◌++◌, ◌+◌, ◌<◌, ◌≤◌, length};
 ghost use Rattle.microword.specs.Code.Within.{Within};
 ghost use Rattle.microtext.specs.Listing.{transfer_part};
@@ -32,7 +33,7 @@ const STARTS: [u8; 48] = [
 
 // Pieces of the table, one behind the other: the table's text, where each piece starts in it, and which pieces.
 fn put_pieces(room: &mut [u8], from: usize, texts: &[u8], starts: &[u8], which: &[usize]) -> usize
-    requires texts_value { (texts.now ≡ pieces_texts table) × (starts.now ≡ pieces_starts 0 table) }
+    requires table { (texts.now ≡ pieces_texts table) × (starts.now ≡ pieces_starts 0 table) }
     requires known { Known which.now × (from + length (spelt which.now) ≤ length room.old) }
     ensures { Wrote room.old from (spelt which.now) room.new result }
 {

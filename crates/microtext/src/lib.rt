@@ -1,4 +1,5 @@
 // Micro text: what one line of it means. A line is scanned once, token by token, and each token moves a part along.
+#![tactic(auto)]
 ghost use Rattle.std.specs.Prelude.{◌≡◌, cond, ltb};
 ghost use Rattle.text.specs.Text.{next_line};
 ghost use Rattle.token.specs.Code.Numbers.{codes_at};
@@ -11,7 +12,7 @@ use part::{Part, Stage};
 use word::Line;
 
 // What the parts of a line have given: a target above 63, a kind twice, an operation, and the fields.
-#[derive(Drop)]
+#[derive(Clone, Copy)]
 pub struct Given {
     pub far: bool,
     pub twice: bool,
@@ -20,7 +21,7 @@ pub struct Given {
 }
 
 // The parts of a line so far; `underway` says that one is under way.
-#[derive(Drop)]
+#[derive(Clone, Copy)]
 pub struct Parts {
     pub given: Given,
     pub underway: bool,
@@ -28,7 +29,7 @@ pub struct Parts {
 }
 
 // Why a line is refused.
-#[derive(Drop)]
+#[derive(Clone, Copy)]
 pub enum Fault {
     ExtraLine,
     WrongNumber,
@@ -53,14 +54,14 @@ impl Fault {
 }
 
 // What a line means.
-#[derive(Drop)]
+#[derive(Clone, Copy)]
 pub enum Meaning {
     Word(u32),
     Refused(Fault),
 }
 
 // A line's word and where the next line begins, or its fault.
-#[derive(Drop)]
+#[derive(Clone, Copy)]
 pub enum Reading {
     Line { word: u32, next: usize },
     Faulty(Fault),

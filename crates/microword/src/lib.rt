@@ -1,11 +1,13 @@
 // The 23-bit control word: its nine fields taken and placed, bad words, and the normal form.
+#![tactic(auto)]
+
 ghost use Rattle.std.specs.Prelude.{◌≡◌, cond};
 ghost use Rattle.microword.specs.Microword.{fields_of, word_of, bad_word, normal_fields, normal_form};
 
 use word::{put_below, take};
 
 // The nine fields, highest first.
-#[derive(Drop)]
+#[derive(Clone, Copy)]
 pub struct Fields {
     pub a: u32,
     pub b: u32,

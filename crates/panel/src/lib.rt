@@ -1,4 +1,5 @@
 // The operator's panel: one cycle a press, over a machine record that stays where it is lent.
+#![tactic(auto)]
 ghost use Rattle.std.specs.Prelude.{◌≡◌};
 ghost use Rattle.engine.specs.Run.{state_of};
 ghost use Rattle.panel.specs.Press.{press, pressed_by};
@@ -6,7 +7,7 @@ ghost use Rattle.panel.specs.Press.{press, pressed_by};
 use engine::{Answer, Machine};
 
 // What a press comes to, and the machine after it.
-#[derive(Drop)]
+#[derive(Clone, Copy)]
 pub struct Pressed {
     pub answer: Answer,
     pub machine: Machine,

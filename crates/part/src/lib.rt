@@ -1,9 +1,10 @@
 // A part of a line of micro text, token by token: how far it has been read, and the part that it comes to.
+#![tactic(auto)]
 ghost use Rattle.std.specs.Prelude.{◌≡◌, cond, eqb};
 ghost use Rattle.part.specs.Code.Stage.{register_of, destination_of, completed as completed_by, from_start, from_value, from_shift, from_first, from_sign, from_goto, advance as advance_to, finished as finished_at};
 
 // A part of a line. `to` is a register's number, or 8 where nothing is stored.
-#[derive(Drop)]
+#[derive(Clone, Copy)]
 pub enum Part {
     Operation { to: u32, f: u32, a: u32, b: u32 },
     Transfer { rd: u32, wr: u32 },
@@ -12,7 +13,7 @@ pub enum Part {
 }
 
 // How far a part has been read. `bracket` says that an opening one wants closing.
-#[derive(Drop)]
+#[derive(Clone, Copy)]
 pub enum Stage {
     Start,
     Named {

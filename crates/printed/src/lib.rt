@@ -1,4 +1,5 @@
 // The printed microprogram, Figure 5.10, as a constant control store.
+#![tactic(auto)]
 ghost use Rattle.std.specs.Prelude.{◌≡◌};
 ghost use Rattle.printed.specs.Printed.{printed};
 

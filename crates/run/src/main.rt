@@ -1,4 +1,5 @@
 // The run program: an image on standard input, the report of 1,000 instructions on standard output, or the answer line.
+#![tactic(auto)]
 ghost use Rattle.std.specs.Prelude.{◌≡◌, ◌≤◌, length as lib_length, take};
 ghost use Rattle.io.specs.Counts.{IsPrefixLen};
 ghost use Rattle.run.specs.Report.{ran, printed};

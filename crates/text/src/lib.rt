@@ -1,4 +1,6 @@
 // Text as bytes: behind the end of a line, and text laid into a lent room. Lines and decimals are defined here for whoever reads text.
+#![tactic(auto)]
+
 ghost use Rattle.std.specs.Prelude.{◌≡◌};
 ghost use Rattle.text.specs.Text.{behind_line};
 ghost use Rattle.text.specs.Laid.{laid};

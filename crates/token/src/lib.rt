@@ -1,4 +1,5 @@
 // Tokens: the next one of a line of micro text, as a number, with the span of its bytes.
+#![tactic(auto)]
 ghost use Rattle.std.specs.Prelude.{◌≡◌, ◌<◌, ◌^◌, true, length, get_or};
 ghost use Rattle.text.specs.Decimal.{digit};
 ghost use Rattle.token.specs.Tokens.{letter};
@@ -6,7 +7,7 @@ ghost use Rattle.token.specs.Code.Next.{grown as grown_by, start_at, scanned};
 ghost use Rattle.token.specs.Code.Numbers.{decimal_of, BeginsSign};
 
 // A token as a number, and what is behind its bytes. Two numbers, since three would go by way of memory at each token.
-#[derive(Drop)]
+#[derive(Clone, Copy)]
 pub struct Scanned {
     pub token: u64,
     pub behind: usize,

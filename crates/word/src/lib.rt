@@ -1,17 +1,19 @@
 // Numbers of the machine: a control line and a memory address, kept apart; fields; what few bits keep; sums; two bytes.
+#![tactic(auto)]
+
 ghost use Rattle.std.specs.Prelude.{◌≡◌};
 ghost use Rattle.word.specs.Number.{field, placed, kept, sum, difference, bytes_of, word_of};
 
 // A line of the control store.
-#[derive(Drop)]
+#[derive(Clone, Copy)]
 pub struct Line(pub u8);
 
 // Where a word lies in main memory.
-#[derive(Drop)]
+#[derive(Clone, Copy)]
 pub struct Address(pub u16);
 
 // A word as two bytes, high byte first.
-#[derive(Drop)]
+#[derive(Clone, Copy)]
 pub struct Pair(pub u8, pub u8);
 
 // The low `width` bits of a number.
