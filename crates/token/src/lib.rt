@@ -53,9 +53,9 @@ fn grown(token: u64, c: u64) -> u64
 
 // Where the next token begins: the first byte from `at` on that is no space. From there to what is behind it are the token's bytes.
 pub fn start(text: &[u8], at: usize) -> usize
-    ensures value { result ≡ start_at text.now at }
-    ensures result_value { scanned text.now result ≡ scanned text.now at }
-    ensures fact { result < length text.now → get_or text.now result 0 ≡ 32 → ⊥ }
+    ensures starts { result ≡ start_at text.now at }
+    ensures same { scanned text.now result ≡ scanned text.now at }
+    ensures no_space { result < length text.now → get_or text.now result 0 ≡ 32 → ⊥ }
 {
     let mut i = at;
     while i < text.len() {
