@@ -1,5 +1,6 @@
 // The operator's panel: one cycle a press, over a machine record that stays where it is lent.
 #![tactic(auto)]
+
 ghost use Rattle.std.specs.Prelude.{◌≡◌};
 ghost use Rattle.engine.specs.Run.{state_of};
 ghost use Rattle.panel.specs.Press.{press, pressed_by};
