@@ -20,7 +20,7 @@ use Rattle.interpreter.specs.declared.Passed.{Passed}
 use Rattle.instruction.proofs.Laws.{carried, paid}
 use Rattle.turns.specs.Turns.{Turn, plus}
 use Rattle.turns.proofs.Laws.{plus_none, plus_plus}
-use Rattle.bus.specs.Stops.{goes_on_lem}
+use Rattle.bus.specs.Stops.{goes_on}
 use Rattle.interpreter.proofs.Laws.{goes_on_lem}
 
 -- An instruction that met a port, and one that was done.
@@ -29,7 +29,7 @@ module _ (acts : List ℕ → Beside → Turn State) (memory : List ℕ) where
   stays own p e = record { done = λ f. absurd (true≢false (sym (ap (λ (q : Passed). q.met) e) ∙ f)); undone = λ f. refl }
 
   pub passes : (left : List ℕ) (own : Registers) (cycles : ℕ) (p : Passed) → p ≡ record { registers = own; met = false; cycles = cycles }
-      → ((input : List ℕ) (b : Beside) → acts input b ≡ record { next = state_with own left b; stop = goes_on_lem; cost = cycles })
+      → ((input : List ℕ) (b : Beside) → acts input b ≡ record { next = state_with own left b; stop = goes_on; cost = cycles })
       → Plain acts memory p left
   passes left own cycles p e h =
       record { done = λ f input b. rw e (h input b); undone = λ f. absurd (true≢false (sym f ∙ ap (λ (q : Passed). q.met) e)) }
@@ -48,7 +48,7 @@ pub stores_below : (cycles : ℕ) (s : State) (cp pp place address word : ℕ) �
     → stores cycles s cp pp place address word
     ≡ record {
       next = record { cp = cp; pp = pp; ac = s.ac; place = place; count = s.count; memory = set s.memory address word; log = s.log };
-      stop = goes_on_lem;
+      stop = goes_on;
       cost = cycles;
     }
 unfolding stores write_at goes sent
@@ -57,7 +57,7 @@ stores_below cycles s cp pp place address word h = rw (lt-ltb address 4092 h)
 module _ (own : Registers) (memory : List ℕ) (input : List ℕ) (b : Beside) where
   pub gains_below : (cycles address : ℕ) (f : ℕ → ℕ) → address < 4092
       → gains cycles input (state_with own memory b) address f
-      ≡ record { next = state_with (record { cp = own.cp; ac = f (get_or memory address 0); pp = own.pp }) memory b; stop = goes_on_lem; cost = cycles }
+      ≡ record { next = state_with (record { cp = own.cp; ac = f (get_or memory address 0); pp = own.pp }) memory b; stop = goes_on; cost = cycles }
   unfolding gains sets
   gains_below cycles address f h = rw (reads_below input (state_with own memory b) address h)
 
@@ -65,7 +65,7 @@ module _ (own : Registers) (memory : List ℕ) (input : List ℕ) (b : Beside) w
       → returns input (state_with own memory b)
       ≡ record {
         next = state_with (record { cp = record { 0 = kept 12 (get_or memory own.pp.0 0) }; ac = own.ac; pp = record { 0 = sum 12 own.pp.0 1 } }) memory b;
-        stop = goes_on_lem;
+        stop = goes_on;
         cost = 9;
       }
   unfolding sets
@@ -75,7 +75,7 @@ module _ (own : Registers) (memory : List ℕ) (input : List ℕ) (b : Beside) w
       → pops input (state_with own memory b)
       ≡ record {
         next = state_with (record { cp = own.cp; ac = get_or memory own.pp.0 0; pp = record { 0 = sum 12 own.pp.0 1 } }) memory b;
-        stop = goes_on_lem;
+        stop = goes_on;
         cost = 10;
       }
   unfolding sets
@@ -135,7 +135,7 @@ pub paid_below : (own : Registers) (memory : List ℕ) (p : Passed) (later : Lis
     → Plain (λ input b. instruct input (state_with own memory b)) memory p later → p.met ≡ false → p.cycles ≤ 11
 paid_below own memory p later q f =
     let b : Beside = record { place = 0; count = 0; log = [] } in
-    paid [] (state_with own memory b) (record { next = state_with p.registers later b; stop = goes_on_lem; cost = p.cycles }) (q.done f [] b)
+    paid [] (state_with own memory b) (record { next = state_with p.registers later b; stop = goes_on; cost = p.cycles }) (q.done f [] b)
 
 pub moves : (n : ℕ) (cpu : Cpu) (memory₀ : List ℕ) (own : Registers) (memory : List ℕ) (left cycles : ℕ) (p : Passed) (later : List ℕ)
     → Partly n cpu memory₀ own memory left cycles → 0 < left
@@ -152,7 +152,7 @@ moves n cpu memory₀ own memory left cycles p later q pos plain f words =
           let b : Beside = record { place = cpu.place; count = cpu.count; log = log } in
           q.same input log
           ∙ goes_on_lem input left (n - left) cycles (state_with own memory b)
-          (record { next = state_with p.registers later b; stop = goes_on_lem; cost = p.cycles })
+          (record { next = state_with p.registers later b; stop = goes_on; cost = p.cycles })
           pos (plain.done f input b) refl
           ∙ rw one
           );

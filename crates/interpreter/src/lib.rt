@@ -1,5 +1,6 @@
 // The direct interpreter: a run of instructions.
 #![tactic(auto)]
+
 ghost use Rattle.std.specs.Prelude.{◌≡◌, true, false, ◌≤◌, ◌<◌, length, get_or};
 ghost use Rattle.word.specs.Number.{kept, sum, difference};
 ghost use Rattle.instruction.specs.Instruction.{gains, branches, stores, action, instruct, state_of};
