@@ -1,5 +1,6 @@
 // Machine and registers as a caller's lists of numbers: what the lists stand for, and what a run hands back to them.
 #![tactic(auto)]
+
 ghost use Rattle.std.specs.Prelude.{◌≡◌, cond, List, ℕ, eqb};
 ghost use Rattle.engine.specs.Run.{number, ended_by};
 ghost use Rattle.interpreter.specs.Run.{ended_by as interpreter_ended_by};
@@ -13,6 +14,7 @@ use panel::Pressed;
 use word::{Address, Line};
 
 // Half done by its number; what is above 2 is refused by `line_of`.
+#[tactic(auto, unfolding(crate::specs::Engine::half_of))]
 fn half_of(number: usize) -> Half
     ensures { result ≡ half_of number }
 {
