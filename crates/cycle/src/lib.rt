@@ -1,5 +1,6 @@
 // One cycle of the machine, driven by one control word.
 #![tactic(auto)]
+
 ghost use Rattle.std.specs.Prelude.{◌≡◌, cond, eqb, set, ◌<◌};
 ghost use Rattle.bus.specs.declared.Stop.TheVariants.{GoesOn};
 ghost use Rattle.datapath.specs.declared.Half.TheVariants.{Nothing};

@@ -1,5 +1,6 @@
 // What any control word drives: the ALU, what a register keeps, the transfer that takes two cycles, and whether a test jumps.
 #![tactic(auto)]
+
 ghost use Rattle.std.specs.Prelude.{◌≡◌};
 ghost use Rattle.datapath.specs.Result.{alu, negative, is_zero, jumps, keeps};
 ghost use Rattle.datapath.specs.Transfer.{read_cycle, write_cycle, transferred, moved};
@@ -30,6 +31,7 @@ pub struct Moved {
 }
 
 // What F makes of A and B, modulo 65,536.
+#[tactic(auto, unfolding(crate::specs::Result::alu, crate::specs::Result::both))]
 pub fn compute(f: u32, a: u16, b: u16) -> u16
     ensures { result ≡ alu f a b }
 {
@@ -79,6 +81,7 @@ fn left(half: Half, rdm: u16, place: usize, count: usize) -> Moved
 }
 
 // A cycle with RD: completes a read that was left half done, else leaves one half done.
+#[tactic(auto, unfolding(crate::specs::Transfer::read_cycle, crate::specs::Transfer::completed_read, crate::specs::Transfer::waits))]
 fn read_cycle(
     half: Half,
     rem: Address,
@@ -102,6 +105,7 @@ fn read_cycle(
 }
 
 // A cycle with WR: completes a write that was left half done, else leaves one half done.
+#[tactic(auto, unfolding(crate::specs::Transfer::write_cycle, crate::specs::Transfer::completed_write, crate::specs::Transfer::waits))]
 fn write_cycle(
     half: Half,
     rem: Address,
@@ -131,6 +135,7 @@ fn write_cycle(
 }
 
 // A cycle's transfer, with REM and RDM as they stand after its store.
+#[tactic(auto, unfolding(crate::specs::Transfer::transferred, crate::specs::Transfer::waits))]
 pub fn transfer(
     rd: bool,
     wr: bool,

@@ -1,5 +1,6 @@
 // The cycle engine for any control store: a run of cycles.
 #![tactic(auto)]
+
 ghost use Rattle.std.specs.Prelude.{◌≡◌};
 ghost use Rattle.engine.specs.Run.{number, named, saying, refusal, cycles, ended, runs, state_of, ended_by};
 

@@ -1,5 +1,6 @@
 // The control store: the control word at a line, and the first bad line.
 #![tactic(auto)]
+
 ghost use Rattle.std.specs.Prelude.{◌≡◌};
 ghost use Rattle.store.specs.Store.{wrong_store, control_word, with_word, first_bad};
 

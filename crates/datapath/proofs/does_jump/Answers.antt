@@ -6,8 +6,7 @@ use native.Mathlib.Omega.{arith}
 use borrow.Author.Tests.{ne_eqb}
 use lib.Dec.{eqb}
 use Rattle.datapath.specs.Result.{jumps}
-use Rattle.datapath.proofs.does_jump.Statement.{statement}
-use Rattle.datapath.proofs.does_jump.Tie as tie
+use Rattle.datapath.proofs.does_jump.Goals as goal
 
 always : (sq : ℕ) (n z : Bool) → 3 ≤ sq → true ≡ jumps sq n z
 unfolding jumps
@@ -21,11 +20,8 @@ by_flags (suc zero) false z l = refl
 by_flags (suc (suc zero)) n z l = refl
 by_flags (suc (suc (suc sq))) n z l = absurd (omega arith)
 
-returns : tie.Need-returns
-returns c = always _ _ _ c.if1.true
+pub returns-then-sq-ge3 : goal.returns-then-sq-ge3
+returns-then-sq-ge3 c = always _ _ _ c.if-sq-ge3.true
 
-returns-2 : tie.Need-returns-2
-returns-2 c = by_flags _ _ _ c.if1.false
-
-pub does_jump_spec : {M : Type 1} → statement M
-does_jump_spec = tie.close (tie.spec returns returns-2)
+pub returns : goal.returns
+returns c = by_flags _ _ _ c.if-sq-ge3.false

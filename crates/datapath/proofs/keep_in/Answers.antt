@@ -5,7 +5,6 @@ use mathlib.Core.Path.{◌≡◌, refl, ◌∙◌}
 use mathlib.Core.Bool.{Bool, true, false, cond, ◌||◌}
 use mathlib.Core.List.{List, [], ◌∷◌}
 use native.Mathlib.Omega.{arith}
-use borrow.Author.Rules.{rules}
 use borrow.Author.Tests.{ne_eqb, eqb-true}
 use lib.Bits.{bit_and, and_mask}
 use lib.Dec.{eqb}
@@ -13,8 +12,7 @@ use lib.ListN.{get_or}
 use Rattle.word.proofs.Laws.{kept_whole}
 use Rattle.word.proofs.Tests.{all, all_at}
 use Rattle.datapath.specs.Result.{keeps}
-use Rattle.datapath.proofs.keep_in.Statement.{statement}
-use Rattle.datapath.proofs.keep_in.Tie as tie
+use Rattle.datapath.proofs.keep_in.Goals as goal
 
 mask : ℕ → ℕ
 mask register = cond (eqb register 0 || eqb register 2 || eqb register 6) 4095 65535
@@ -37,18 +35,9 @@ unfolding keeps
 uncut register value l =
     simp (ne_eqb register 0 (λ e. omega arith), ne_eqb register 2 (λ e. omega arith), ne_eqb register 6 (λ e. omega arith))
 
-returns : tie.Need-returns
-returns c = uncut _ _ c.if1.true
+pub returns-then-register-ge8 : goal.returns-then-register-ge8
+returns-then-register-ge8 c = uncut _ _ c.if-register-ge8.true
 
-mul-result : tie.Need-overflow-mul-result
-mul-result c = search rules
-
-array-read-result : tie.Need-array-read-result
-array-read-result c = search rules
-
-returns-2 : tie.Need-returns-2
+pub returns : goal.returns
 unfolding all mask
-returns-2 c = kept_by (4095 ∷ 65535 ∷ 4095 ∷ 65535 ∷ 65535 ∷ 65535 ∷ 4095 ∷ 65535 ∷ []) _ _ refl c.if1.false c.before.ranges.value.fits
-
-pub keep_in_spec : {M : Type 1} → statement M
-keep_in_spec = tie.close (tie.spec returns mul-result array-read-result returns-2)
+returns c = kept_by (4095 ∷ 65535 ∷ 4095 ∷ 65535 ∷ 65535 ∷ 65535 ∷ 4095 ∷ 65535 ∷ []) _ _ refl c.if-register-ge8.false c.ranges.value.fits
