@@ -6,7 +6,7 @@ use mathlib.Core.List.{List, [], ◌∷◌}
 use native.Mathlib.Omega.{arith}
 use borrow.Author.Tests.{lt-ltb, ltb-true, leb-false, eqb-true, eq-eqb}
 use lib.Dec.{leb, ltb, eqb}
-use Rattle.microword.specs.Microword.{word_of, idle, binary, unused_clear, is_normal_lem}
+use Rattle.microword.specs.Microword.{word_of, idle, binary, unused_clear, is_normal}
 use Rattle.microword.proofs.Laws.{fields_back, word_below}
 use Rattle.microword.specs.Code.Within.{Within}
 use Rattle.microword.specs.declared.Fields.{Fields}
@@ -34,8 +34,8 @@ cleared : (unused : Bool) (value : ℕ) → (unused ≡ true → value ≡ 0) �
 cleared true value h = eq-eqb value 0 (h refl)
 cleared false value h = refl
 
-pub is_normal_lem : (m : Fields) → Within m → Clear m → is_normal_lem (word_of m) ≡ true
-unfolding is_normal_lem unused_clear
+pub is_normal_lem : (m : Fields) → Within m → Clear m → is_normal (word_of m) ≡ true
+unfolding is_normal unused_clear
 is_normal_lem m h k =
     rw (
       fields_back m h,
@@ -262,44 +262,44 @@ module _ (g : Given) (c : clash g ≡ false) where
       unused false false p q e = k.b_used q
       unused false true p q e = absurd (false≢true e)
 
-settled_normal : (g : Given) → Kept g → (w : ℕ) → settled g ≡ Word w → is_normal_lem w ≡ true
+settled_normal : (g : Given) → Kept g → (w : ℕ) → settled g ≡ Word w → is_normal w ≡ true
 unfolding settled
 settled_normal g k w e = go g.far (clash g) refl refl e
   where
-    go : (f c : Bool) → g.far ≡ f → clash g ≡ c → cond f (Refused FarTarget) (cond c (Refused WrongParts) (Word (word_of g.fields))) ≡ Word w → is_normal_lem w ≡ true
+    go : (f c : Bool) → g.far ≡ f → clash g ≡ c → cond f (Refused FarTarget) (cond c (Refused WrongParts) (Word (word_of g.fields))) ≡ Word w → is_normal w ≡ true
     go true c p q e = let o : ◌≡◌ {A = ℕ} 0 1 = cc in absurd (omega arith)
     go false true p q e = let o : ◌≡◌ {A = ℕ} 0 1 = cc in absurd (omega arith)
     go false false p q e =
         let v : word_of g.fields ≡ w = cc in
         let small : Within g.fields =
         record { a = k.a; b = k.b; s = k.s; hs = k.hs; f = k.f; rd = k.rd; wr = k.wr; sq = k.sq; end = k.end p } in
-        subst (λ (x : ℕ). is_normal_lem x ≡ true) v (is_normal_lem g.fields small (clear g q k))
+        subst (λ (x : ℕ). is_normal x ≡ true) v (is_normal_lem g.fields small (clear g q k))
 
 -- The word of a line is normal.
-pub line_normal : (k : ℕ) (s : List ℕ) (w : ℕ) → line k s ≡ Word w → is_normal_lem w ≡ true
+pub line_normal : (k : ℕ) (s : List ℕ) (w : ℕ) → line k s ≡ Word w → is_normal w ≡ true
 unfolding line numbered behind_number meaning
 line_normal k s w e = go (ltb k 64) (tokens s) e
   where
-    whole : (f : Bool) (ps : List (List Token)) → cond f (Refused Ungrammatical) (settled (given nothing (parts ps))) ≡ Word w → is_normal_lem w ≡ true
+    whole : (f : Bool) (ps : List (List Token)) → cond f (Refused Ungrammatical) (settled (given nothing (parts ps))) ≡ Word w → is_normal w ≡ true
     whole true ps e = let o : ◌≡◌ {A = ℕ} 0 1 = cc in absurd (omega arith)
     whole false ps e = settled_normal (given nothing (parts ps)) (given_kept (parts ps) (parts_fine ps) nothing kept_nothing) w e
 
-    behind : (ts : List Token) → behind_number ts ≡ Word w → is_normal_lem w ≡ true
+    behind : (ts : List Token) → behind_number ts ≡ Word w → is_normal w ≡ true
     behind [] e = let o : ◌≡◌ {A = ℕ} 0 1 = cc in absurd (omega arith)
     behind (c ∷ ts) e = one (c is ":") e
       where
-        one : (b : Bool) → cond b (meaning nothing (parts (divided ts))) (Refused Ungrammatical) ≡ Word w → is_normal_lem w ≡ true
+        one : (b : Bool) → cond b (meaning nothing (parts (divided ts))) (Refused Ungrammatical) ≡ Word w → is_normal w ≡ true
         one true e = whole (some_foreign (parts (divided ts))) (divided ts) e
         one false e = let o : ◌≡◌ {A = ℕ} 0 1 = cc in absurd (omega arith)
 
-    number_first : (ts : List Token) → numbered k ts ≡ Word w → is_normal_lem w ≡ true
+    number_first : (ts : List Token) → numbered k ts ≡ Word w → is_normal w ≡ true
     number_first [] e = let o : ◌≡◌ {A = ℕ} 0 1 = cc in absurd (omega arith)
     number_first (n ∷ ts) e = one (eqb (from_decimal n) k) e
       where
-        one : (b : Bool) → cond b (behind_number ts) (Refused WrongNumber) ≡ Word w → is_normal_lem w ≡ true
+        one : (b : Bool) → cond b (behind_number ts) (Refused WrongNumber) ≡ Word w → is_normal w ≡ true
         one true e = behind ts e
         one false e = let o : ◌≡◌ {A = ℕ} 0 1 = cc in absurd (omega arith)
 
-    go : (b : Bool) (ts : List Token) → cond b (numbered k ts) (Refused ExtraLine) ≡ Word w → is_normal_lem w ≡ true
+    go : (b : Bool) (ts : List Token) → cond b (numbered k ts) (Refused ExtraLine) ≡ Word w → is_normal w ≡ true
     go true ts e = number_first ts e
     go false ts e = let o : ◌≡◌ {A = ℕ} 0 1 = cc in absurd (omega arith)

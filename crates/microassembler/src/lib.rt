@@ -1,5 +1,6 @@
 // The microassembler: micro text to a control store.
 #![tactic(auto)]
+
 ghost use Rattle.std.specs.Prelude.{◌≡◌, length};
 ghost use Rattle.store.specs.Store.{words};
 ghost use Rattle.microassembler.specs.Assembled.{number, assembled};

@@ -1,5 +1,6 @@
 // One line of a listing: its number and the parts of a control word, put together from pieces of a table.
 #![tactic(auto)]
+
 ghost use Rattle.std.specs.Prelude.{◌≡◌, [], ◌∷◌, ◌++◌, ◌+◌, ◌<◌, ◌≤◌, length};
 ghost use Rattle.microword.specs.Code.Within.{Within};
 ghost use Rattle.microtext.specs.Listing.{transfer_part};
@@ -167,7 +168,7 @@ fn put_target(room: &mut [u8], at: usize, m: Fields) -> usize
 
 // A control word as a line, from the start of the room. A smaller room than a line may need, or a number that no line has, is left as found.
 pub fn put_line(room: &mut [u8], number: u32, word: u32) -> usize
-    ensures { laid_line room.entry.now number word ≡ record { room = room.exit.now; next = result } }
+    ensures { laid_line room.old number word ≡ record { room = room.new; next = result } }
 {
     if room.len() < 44 {
         return 0;

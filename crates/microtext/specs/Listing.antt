@@ -1,5 +1,5 @@
 -- The bytes of a listing (01, Micro text and images): of an operation, of a jump, of a line, of a control store.
-use Rattle.std.specs.Prelude.{ℕ, suc, ◌+◌, Bool, cond, not, ◌||◌, List, [], ◌∷◌, ◌++◌, eqb, get_or}
+use Rattle.std.specs.Prelude.{ℕ, suc, Bool, cond, not, ◌||◌, List, [], ◌∷◌, ◌++◌, eqb, get_or}
 use Rattle.microword.specs.Microword.{fields_of, normal_form, idle}
 use Rattle.microword.specs.declared.Fields.{Fields}
 use Rattle.part.specs.Grammar.{registers}

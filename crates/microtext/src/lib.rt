@@ -1,5 +1,6 @@
 // Micro text: what one line of it means. A line is scanned once, token by token, and each token moves a part along.
 #![tactic(auto)]
+
 ghost use Rattle.std.specs.Prelude.{◌≡◌, cond, ltb};
 ghost use Rattle.text.specs.Text.{next_line};
 ghost use Rattle.token.specs.Code.Numbers.{codes_at};

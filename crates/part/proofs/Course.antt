@@ -20,7 +20,7 @@ use Rattle.token.proofs.Bytes.{Bytes}
 use Rattle.token.proofs.Packed.{known}
 use Rattle.part.proofs.Words.{register_of_lem, destination_of_lem}
 use Rattle.part.proofs.Formula.{name, Name, plain_name_lem, named, formula_nothing, formula_nowhere, only, closing, finishing, value, lift_foreign, lift_whole, Signed, plus, minus, and, Shifted, left, right, sign, shift, first_foreign, first_alone, first_closed, sign_foreign, sign_alone, sign_register, plus_one, minus_one, shift_alone, shift_foreign, shift_register, unclosed}
-use Rattle.part.specs.Code.Stage.{completed, from_start_lem, from_value, from_shift, from_first_lem, from_sign, from_goto, advance, finished}
+use Rattle.part.specs.Code.Stage.{completed, from_start, from_value, from_shift, from_first, from_sign, from_goto, advance, finished}
 use Rattle.part.specs.declared.Stage.{Stage}
 use Rattle.part.specs.declared.Stage.TheVariants.{Start, Named, Assigned, Opened, Shift, First, Sign, Closing, If, Tested, Then, Goto, Whole, Wrong}
 
@@ -129,8 +129,8 @@ module _ (u : Token) (r : u is "rd" ≡ false) (w : u is "wr" ≡ false) (g : u 
   starts_nothing d (t ∷ []) = rw g
   starts_nothing d (t ∷ v ∷ ts) = rw i (unassigned u d t (bare (v ∷ ts)))
 
-from_start_lem : (u : Token) → Bytes u → (ts : List Token) → Step u ts (part (u ∷ ts)) (from_start_lem (packed u))
-unfolding from_start_lem
+from_start_lem : (u : Token) → Bytes u → (ts : List Token) → Step u ts (part (u ∷ ts)) (from_start (packed u))
+unfolding from_start
 from_start_lem u b ts =
     rw (known u (bytes "rd") b refl, known u (bytes "wr") b refl, known u (bytes "goto") b refl, known u (bytes "if") b refl, destination_of_lem u b)
     (go (u is "rd") (u is "wr") (u is "goto") (u is "if") (ltb (destination u) 9) refl refl refl refl refl)
@@ -207,8 +207,8 @@ from_shift_lem bracket to f k s u b ts = rw (register_of_lem u b) (go (ltb (regi
         record { same_part_lem = lift_foreign bracket to (shift f ∷ []) u ts (λ e. (shift_other s).0) (λ p q. shift_alone to s) (shift_foreign to s u r); fine = tt }
 
 from_first_lem : (bracket : Bool) (to a : ℕ) → to < 9 → a < 8 → (u : Token) → Bytes u → (ts : List Token)
-    → Step u ts (value bracket to (name a ∷ u ∷ ts)) (from_first_lem bracket to a (packed u))
-unfolding from_first_lem
+    → Step u ts (value bracket to (name a ∷ u ∷ ts)) (from_first bracket to a (packed u))
+unfolding from_first
 from_first_lem bracket to a k h u b ts =
     rw (known u (bytes "+") b refl, known u (bytes "-") b refl, known u (bytes "^") b refl, known u (bytes ")") b refl)
     (go (u is "+") (u is "-") (u is "^") bracket (u is ")") refl refl refl refl)

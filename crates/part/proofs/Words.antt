@@ -7,10 +7,10 @@ use Rattle.part.specs.Grammar.{registers, destination, register_named}
 use Rattle.token.specs.Code.Next.{packed}
 use Rattle.token.proofs.Bytes.{Bytes}
 use Rattle.token.proofs.Packed.{known}
-use Rattle.part.specs.Code.Stage.{register_of_lem, destination_of}
+use Rattle.part.specs.Code.Stage.{register_of, destination_of}
 
-pub register_of_lem : (u : Token) → Bytes u → register_of_lem (packed u) ≡ register_named u
-unfolding register_of_lem register_named
+pub register_of_lem : (u : Token) → Bytes u → register_of (packed u) ≡ register_named u
+unfolding register_of register_named
 register_of_lem u b = position_index u b registers refl
 
 pub destination_of_lem : (u : Token) → Bytes u → destination_of (packed u) ≡ destination u

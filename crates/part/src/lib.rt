@@ -1,5 +1,6 @@
 // A part of a line of micro text, token by token: how far it has been read, and the part that it comes to.
 #![tactic(auto)]
+
 ghost use Rattle.std.specs.Prelude.{◌≡◌, cond, eqb};
 ghost use Rattle.part.specs.Code.Stage.{register_of, destination_of, completed as completed_by, from_start, from_value, from_shift, from_first, from_sign, from_goto, advance as advance_to, finished as finished_at};
 

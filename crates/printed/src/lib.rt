@@ -1,5 +1,6 @@
 // The printed microprogram, Figure 5.10, as a constant control store.
 #![tactic(auto)]
+
 ghost use Rattle.std.specs.Prelude.{◌≡◌};
 ghost use Rattle.printed.specs.Printed.{printed};
 

@@ -1,5 +1,6 @@
 // Tokens: the next one of a line of micro text, as a number, with the span of its bytes.
 #![tactic(auto)]
+
 ghost use Rattle.std.specs.Prelude.{◌≡◌, ◌<◌, ◌^◌, true, length, get_or};
 ghost use Rattle.text.specs.Decimal.{digit};
 ghost use Rattle.token.specs.Tokens.{letter};
