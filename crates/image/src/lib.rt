@@ -1,5 +1,6 @@
 // Memory images: records of an address and a value, read into a lent memory and written from one.
 #![tactic(auto)]
+
 ghost use Rattle.std.specs.Prelude.{◌≡◌, false, cond, ◌∷◌, ◌+◌, ◌/◌, ◌%◌, ◌≤◌, length, drop, replicate, ltb, eqb};
 ghost use Rattle.image.specs.Answers.{number};
 ghost use Rattle.image.specs.Records.{records, bytes, fault, record_of};
