@@ -1,5 +1,6 @@
 // What the two programs share: standard input read to its end, the texts that they print as bytes in a lent room, and standard output.
 #![tactic(auto)]
+
 ghost use Rattle.std.specs.Prelude.{◌≡◌, List, [], ◌∷◌, ◌++◌, ℕ, ◌+◌, ◌*◌, ◌≤◌, length, take};
 ghost use Rattle.text.specs.Laid.{Wrote};
 ghost use Rattle.text.specs.Decimal.{decimal};
@@ -7,10 +8,17 @@ ghost use Rattle.console.specs.Text.{signed, counts, registers, line, lines, ref
 ghost use Rattle.console.specs.Code.Shown.{shown};
 ghost use Rattle.io.specs.Counts.{IsPrefixLen};
 
+use std::fs::OpenFile;
+use std::io::{Error, Read, Write};
+use std::rt::Files;
+use std::{fmt, fs};
 use word::Address;
 
 // The room that every text fits into.
 const ROOM: usize = 512;
+
+// The name by which a process opens what its standard output goes to.
+const OUTPUT: &str = "/dev/stdout";
 
 // What came of reading: how many bytes stand at the front of the buffer, and whether a read failed behind them.
 #[derive(Clone, Copy)]
@@ -31,69 +39,120 @@ pub struct Run {
     pub count: usize,
 }
 
-// One read of standard input; no bytes are its end, or that it failed.
-fn read_some(part: &mut [u8]) -> Input
-    ensures { IsPrefixLen result.length part.new }
-{
-    let got = libc::read(libc::STDIN_FILENO, part);
-    Input {
-        length: io::count(got, part),
-        failed: got < 0,
+// The same before a failure is said, with the failure.
+#[derive(Clone, Copy)]
+struct Got {
+    length: usize,
+    failure: Option<Error>,
+}
+
+// A system's error in the system's words, without the number that std puts behind them.
+#[derive(Clone, Copy)]
+struct Reason {
+    error: Error,
+}
+
+impl fmt::Display for Reason {
+    fn fmt<W: fmt::Write>(&self, f: &mut fmt::Formatter<W>) -> fmt::Result {
+        let mut room = [0u8; 256];
+        let mut rest: &mut [u8] = &mut room;
+        let _ = write!(rest, "{}", self.error);
+        let left = rest.len();
+        let text = match str::from_utf8(&room[..256usize.saturating_sub(left)]) {
+            Ok(text) => text,
+            Err(_) => "",
+        };
+        match text.split_once(" (os error ") {
+            Some((words, _)) => write!(f, "{words}"),
+            None => write!(f, "{text}"),
+        }
     }
 }
 
-// Standard input up to its end, or as much of it as the buffer holds. A read that fails is not the end.
-fn read_all(buffer: &mut [u8]) -> Input
+// One read; no bytes are the input's end, or that it failed.
+fn read_some(reader: &mut impl Read, part: &mut [u8]) -> Got
+    ensures { IsPrefixLen result.length part.new }
+{
+    match reader.read(part) {
+        Ok(length) => Got {
+            length,
+            failure: None,
+        },
+        Err(error) => Got {
+            length: 0,
+            failure: Some(error),
+        },
+    }
+}
+
+// An input up to its end, or as much of it as the buffer holds. A read that fails is not the end.
+fn read_all(reader: &mut impl Read, buffer: &mut [u8]) -> Got
     ensures { IsPrefixLen result.length buffer.new }
 {
     let mut done: usize = 0;
     while done < buffer.len() {
-        let piece = read_some(&mut buffer[done..]);
+        let piece = read_some(reader, &mut buffer[done..]);
         if piece.length == 0 {
-            return Input {
+            return Got {
                 length: done,
-                failed: piece.failed,
+                failure: piece.failure,
             };
         }
         done += piece.length;
     }
-    Input {
+    Got {
         length: done,
-        failed: false,
+        failure: None,
     }
 }
 
-// Writes a text to standard output and closes it, since some systems say only then that bytes were lost. Whether both went well.
-fn write_out(text: &[u8]) -> bool {
-    if !io::write_all(libc::STDOUT_FILENO, text) {
-        return false;
+// Writes a text to standard output, and fails where bytes were lost.
+fn write_out(rt: &(impl Print + Files), text: &[u8]) -> std::io::Result<()> {
+    let mut out = std::io::writer(rt);
+    out.write_all(text)?;
+    out.flush()?;
+    sync_out(rt)
+}
+
+// Syncs standard output where it is a file, since some systems say only then that bytes were lost. What cannot be opened by its name is left as it is.
+fn sync_out(rt: &impl Files) -> std::io::Result<()> {
+    let Ok(found) = fs::metadata(rt, OUTPUT) else {
+        return Ok(());
+    };
+    if !found.is_file() {
+        return Ok(());
     }
-    libc::close(libc::STDOUT_FILENO) == 0
+    let Ok(file) = fs::open(rt, OUTPUT) else {
+        return Ok(());
+    };
+    file.sync_all()
 }
 
-// Says on standard error which program's stream failed, and why: one line, the name and the stream within 64 bytes.
-fn say_failed(program: &[u8], stream: &[u8]) {
-    let mut what = [0u8; 64];
-    let at = text::put(&mut what, 0, program);
-    let end = text::put(&mut what, at, stream);
-    os::fail(&what[..end]);
+// Says on standard error which program's stream failed, and why, in one line. What standard error doesn't take is lost.
+fn say_failed(rt: &impl Eprint, program: &str, stream: &str, error: Error) {
+    let reason = Reason { error };
+    let _ = eprintln!(rt; "{program}: {stream}: {reason}");
 }
 
-// A program's input: `read_all`, with a failure said.
-pub fn read_input(program: &[u8], buffer: &mut [u8]) -> Input
+// A program's input: `read_all` of standard input, with a failure said.
+pub fn read_input(rt: &(impl std::io::Input + Eprint), program: &str, buffer: &mut [u8]) -> Input
     ensures { IsPrefixLen result.length buffer.new }
 {
-    let got = read_all(buffer);
-    if got.failed {
-        say_failed(program, b": standard input");
+    let mut reader = rt.reader();
+    let got = read_all(&mut reader, buffer);
+    if let Some(error) = got.failure {
+        say_failed(rt, program, "standard input", error);
     }
-    got
+    Input {
+        length: got.length,
+        failed: got.failure.is_some(),
+    }
 }
 
 // A program's output: `write_out`, with a failure said.
-pub fn print(program: &[u8], text: &[u8]) {
-    if !write_out(text) {
-        say_failed(program, b": standard output");
+pub fn print(rt: &(impl Print + Eprint + Files), program: &str, text: &[u8]) {
+    if let Err(error) = write_out(rt, text) {
+        say_failed(rt, program, "standard output", error);
     }
 }
 
@@ -119,6 +178,7 @@ fn put_labelled(room: &mut [u8], at: usize, label: &[u8], n: u64) -> usize
 }
 
 // A word as a signed number.
+#[tactic(auto, unfolding(crate::specs::Text::signed))]
 fn put_signed(room: &mut [u8], at: usize, word: u16) -> usize
     requires { at + 21 ≤ length room.old }
     ensures wrote { Wrote room.old at (signed word) room.new result }
