@@ -1,5 +1,6 @@
 // The lister: a control store into its micro text.
 #![tactic(auto)]
+
 ghost use Rattle.std.specs.Prelude.{◌≡◌, ◌≤◌, length, take};
 ghost use Rattle.microtext.specs.Listing.{lines, shown};
 ghost use Rattle.text.specs.Laid.{Wrote};

@@ -1,0 +1,52 @@
+-- `shown_words` leaves out last words whose normal form is 0, and stops at the first that is not.
+use lib.Seq.{take_all}
+use native.Mathlib.Omega.{arith}
+use lib.ListN.{length}
+use mathlib.Core.Path.{◌≡◌, sym, ap, ◌∙◌}
+use Rattle.lister.proofs.Laws.{last_shown, last_hidden}
+use Rattle.microword.specs.Microword.{normal_form}
+use Rattle.microtext.specs.Listing.{shown}
+use Rattle.store.specs.Store.{words}
+use Rattle.lister.proofs.shown_words.Goals as goal
+
+pub loop-count-init : goal.loop-count-init
+loop-count-init c = (omega arith, omega arith, ap shown (take_all 64 (words c.args.store.now) (omega arith)))
+
+pub overflow_sub-count : goal.overflow_sub-count
+overflow_sub-count c = omega arith
+
+pub overflow_cast-count : goal.overflow_cast-count
+overflow_cast-count c = omega arith
+
+pub normal-form-requires : goal.normal-form-requires
+normal-form-requires c = tt
+
+pub returns-then-form-ne0 : goal.returns-then-form-ne0
+returns-then-form-ne0 c =
+    let w = c.word_at-word in
+    let n = c.normal-form in
+    last_shown (words c.args.store.now) c.loop-count.count c.loop-count-test.true c.loop-count.invariant.0
+    (λ e. c.if-form-ne0.true (n.ensures ∙ ap normal_form w.ensures ∙ e))
+    ∙ ap length c.loop-count.invariant.2
+
+pub overflow_sub-count-in-loop-count : goal.overflow_sub-count-in-loop-count
+overflow_sub-count-in-loop-count c = omega arith
+
+pub loop-count-smaller : goal.loop-count-smaller
+loop-count-smaller c = omega arith
+
+pub loop-count-preserved : goal.loop-count-preserved
+loop-count-preserved c =
+    let w = c.word_at-word in
+    let n = c.normal-form in (
+      omega arith,
+      omega arith,
+      last_hidden (words c.args.store.now) c.loop-count.count c.loop-count-test.true c.loop-count.invariant.0
+          (ap normal_form (sym w.ensures) ∙ sym n.ensures ∙ c.if-form-ne0.false)
+          ∙ c.loop-count.invariant.2,
+    )
+
+pub returns : goal.returns
+unfolding shown
+returns c = let e : c.loop-count.count ≡ 0 = omega arith in
+    e ∙ ap length (rw e at c.loop-count.invariant.2)
