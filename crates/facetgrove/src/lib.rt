@@ -1,5 +1,6 @@
 // The library for C and Rust: each function of the plant's software over numbers and slices.
 #![tactic(auto)]
+
 ghost use Rattle.std.specs.Prelude.{◌≡◌};
 ghost use Rattle.microassembler.specs.Assembled.{assembled};
 ghost use Rattle.image.specs.Image.{reading};
