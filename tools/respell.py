@@ -1,7 +1,7 @@
 #!/usr/bin/env python3
 """Spells this repository's own definitions, lemmas and fields as the library does, after port.py: words in snake case, no middle dot.
 
-usage: tools/respell.py [--check] [FOLDER]
+usage: tools/respell.py [--check] [FOLDER]        once, right after port.py: what it spells `_lem` a second run would spell so again
 
 A name that a file of specs/ or proofs/ declares or brings in under another name (`as`), in camel case (bytesOf) or with dashes (kept-below), gets underscores (bytes_of, kept_below).
 What answers a goal (its type begins with `tie.` or `goal.`) keeps the name that Rattle gives it, and so does what the library declares.
@@ -34,7 +34,7 @@ LEMMAS = {
 # A name that would meet another in its file.
 APART = {
     "crates/token/proofs/Packed.antt": {"all-bytes": "all_bytes_lem"},
-    "crates/facetgrove/proofs/Refused.antt": {"Interpreter-as-State": "InterpreterState"},
+    "crates/facetgrove/proofs/Refused.antt": {"Interpreter-as-State": "InterpreterState", "interpreter-leaves": "interpreter_leaves"},
     "crates/console/proofs/Laws.antt": {"lastDigits": "digits_of_io"},
 }
 
