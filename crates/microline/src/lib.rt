@@ -51,6 +51,7 @@ fn put_pieces(room: &mut [u8], from: usize, texts: &[u8], starts: &[u8], which: 
 }
 
 // Where the operation stores; `alu` stores nothing.
+#[tactic(auto, using(crate::proofs::Laws::chosen_alu))]
 fn destination(m: Fields) -> usize
     requires { Within m }
     ensures { Chosen result (to m) }
