@@ -89,6 +89,7 @@ fn put_lines(room: &mut [u8], store: &[u32], count: usize) -> usize
 }
 
 // How many words there are up to the last whose normal form is not 0.
+#[tactic(auto, using(crate::proofs::Laws::last_shown))]
 fn shown_words(store: &[u32]) -> usize
     requires { length (words store.now) ≡ 64 }
     ensures { result ≡ length (shown (words store.now)) }
@@ -113,6 +114,7 @@ fn refused(answer: Answer) -> Listed
 }
 
 // The listing of a store, at the start of a room.
+#[tactic(auto, unfolding(crate::specs::Answers::listed))]
 pub fn list(store: &[u32], room: &mut [u8]) -> Listed
     ensures { listed store.now room.old ≡ seen result room.new }
 {

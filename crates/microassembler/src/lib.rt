@@ -44,6 +44,7 @@ fn copy_words(from: &[u32; 64], store: &mut [u32])
 }
 
 // The control store that micro text asks for; a refusal leaves `store` as found.
+#[tactic(auto, using(crate::proofs::Filled::long_text))]
 pub fn assemble(text: &[u8], store: &mut [u32]) -> Answer
     ensures { assembled text.now store.old ≡ record { answer = number result; store = store.new } }
 {

@@ -6,7 +6,7 @@ use mathlib.Core.List.{List, [], ◌∷◌, ◌++◌, append-nil, append_assoc, 
 use native.Mathlib.Nat.{suc-add, zero-add}
 use native.Mathlib.Numerals.{add-one}
 use native.Mathlib.Omega.{arith}
-use borrow.Author.Tests.{le-ltb}
+use borrow.Author.Tests.{eq-eqb, le-ltb}
 use lib.Dec.{eqb, ltb}
 use lib.ListN.{length, get_or, take, drop, length-append, drop_of_length-le}
 use lib.Seq.{drop-cons, take-append_seam, drop-append_seam, get_or-take, get_or-drop}
@@ -96,6 +96,10 @@ pub chosen_destination : (s : ℕ) → s < 8 → Chosen s (stores (register_name
 unfolding table destinations
 chosen_destination s h =
     record { known = omega arith; same = rw zero-add at (in_table 0 (map stores registers) s refl h) ∙ of_map stores registers s h }
+
+pub chosen_alu : (m : Fields) → m.hs ≡ 0 → Chosen 8 (to m)
+unfolding table destinations
+chosen_alu m e = rw (eq-eqb _ _ e) (record { known = omega arith; same = refl })
 
 pub chosen_second : (b : ℕ) → b < 8 → Chosen (33 + b) (ends (register_name b))
 unfolding table destinations signs_before signs_behind seconds

@@ -51,6 +51,7 @@ fn put_pieces(room: &mut [u8], from: usize, texts: &[u8], starts: &[u8], which: 
 }
 
 // Where the operation stores; `alu` stores nothing.
+#[tactic(auto, using(crate::proofs::Laws::chosen_alu))]
 fn destination(m: Fields) -> usize
     requires { Within m }
     ensures { Chosen result (to m) }
@@ -140,6 +141,7 @@ fn put_parts(room: &mut [u8], at: usize, m: Fields) -> usize
 }
 
 // A number below 100 in decimal, and the mark behind it.
+#[tactic(auto, unfolding(text::specs::Decimal::short_decimal))]
 fn put_number(room: &mut [u8], at: usize, k: u32, mark: u8) -> usize
     requires { (k < 100) × (at + length (short_decimal k) + 1 ≤ length room.old) }
     ensures { Wrote room.old at (short_decimal k ++ mark ∷ []) room.new result }

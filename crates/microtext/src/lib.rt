@@ -275,6 +275,7 @@ fn read_parts(text: &[u8], at: usize) -> Reading
 }
 
 // The line of `text` that begins at `at`, as the line numbered `line`.
+#[tactic(auto, using(crate::proofs::Whole::extra_line))]
 pub fn read_line(text: &[u8], at: usize, line: Line) -> Reading
     ensures { result ≡ reading_at text.now at line.0 }
 {

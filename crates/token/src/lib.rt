@@ -53,6 +53,7 @@ fn grown(token: u64, c: u64) -> u64
 }
 
 // Where the next token begins: the first byte from `at` on that is no space. From there to what is behind it are the token's bytes.
+#[tactic(auto, using(crate::proofs::Scan::starts_here))]
 pub fn start(text: &[u8], at: usize) -> usize
     ensures starts { result ≡ start_at text.now at }
     ensures same { scanned text.now result ≡ scanned text.now at }

@@ -16,16 +16,12 @@ pub returns-then-is_wrong : goal.returns-then-is_wrong
 unfolding listed
 returns-then-is_wrong c = rw (c.refused.ensures, sym c.is_wrong.ensures ∙ c.if-is_wrong.true)
 
-pub returns-then-room-lt2816 : goal.returns-then-room-lt2816
-unfolding listed
-returns-then-room-lt2816 c = rw (c.refused-then-room-lt2816.ensures, sym c.is_wrong.ensures ∙ c.if-is_wrong.false, lt-ltb _ _ c.if-room-lt2816.true)
-
 pub returns-then-bad-lt64 : goal.returns-then-bad-lt64
 unfolding listed
 returns-then-bad-lt64 c =
     let store = c.args.store.now in
     let right = sym c.is_wrong.ensures ∙ c.if-is_wrong.false in
-    rw (c.refused-then-bad-lt64.ensures, ← c.first_bad-bad.ensures, right, le-ltb _ _ c.if-room-lt2816.false, lt-ltb c.first_bad-bad.result (length (words store)) (omega (arith, sized store right)))
+    rw (c.refused-then-bad-lt64.ensures, ← c.first_bad-bad.ensures, right, le-ltb (length c.args.room.now) 2816 (omega arith), lt-ltb c.first_bad-bad.result (length (words store)) (omega (arith, sized store right)))
 
 pub shown_words-count-requires : goal.shown_words-count-requires
 shown_words-count-requires c =
@@ -42,7 +38,7 @@ returns-then-room-lines_length c =
     let store = c.args.store.now in
     let e = ap (lines 0) (first_shown store c.shown_words-count.result c.shown_words-count.ensures) in
     rw c.refused-then-room-lines_length.ensures
-    (past_room store c.args.room.now (sym c.is_wrong.ensures ∙ c.if-is_wrong.false) c.if-room-lt2816.false
+    (past_room store c.args.room.now (sym c.is_wrong.ensures ∙ c.if-is_wrong.false) (omega arith)
     (omega (arith, c.first_bad-bad.ensures, c.if-bad-lt64.false)) (omega (arith, c.lines_length.ensures, ap length e)))
 
 pub put_lines-length-requires : goal.put_lines-length-requires
@@ -59,5 +55,5 @@ returns c =
     let put = same_text e c.put_lines-length.ensures in
     let fits : length (listing (words store)) ≤ length c.args.room.now = omega (arith, c.lines_length.ensures, ap length e) in
     rw (all_of put fits, put.behind, zero-add)
-    (all_done store c.args.room.now (sym c.is_wrong.ensures ∙ c.if-is_wrong.false) c.if-room-lt2816.false
+    (all_done store c.args.room.now (sym c.is_wrong.ensures ∙ c.if-is_wrong.false) (omega arith)
     (omega (arith, c.first_bad-bad.ensures, c.if-bad-lt64.false)) fits)

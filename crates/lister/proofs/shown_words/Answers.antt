@@ -2,9 +2,8 @@
 use lib.Seq.{take_all}
 use native.Mathlib.Omega.{arith}
 use lib.ListN.{length}
-use mathlib.Core.Path.{◌≡◌, sym, ap, ◌∙◌}
-use Rattle.lister.proofs.Laws.{last_shown, last_hidden}
-use Rattle.microword.specs.Microword.{normal_form}
+use mathlib.Core.Path.{◌≡◌, ap, ◌∙◌}
+use Rattle.lister.proofs.Laws.{last_hidden}
 use Rattle.microtext.specs.Listing.{shown}
 use Rattle.store.specs.Store.{words}
 use Rattle.lister.proofs.shown_words.Goals as goal
@@ -21,14 +20,6 @@ overflow_cast-count c = omega arith
 pub normal-form-requires : goal.normal-form-requires
 normal-form-requires c = tt
 
-pub returns-then-form-ne0 : goal.returns-then-form-ne0
-returns-then-form-ne0 c =
-    let w = c.word_at-word in
-    let n = c.normal-form in
-    last_shown (words c.args.store.now) c.loop-count.count c.loop-count-test.true c.loop-count.invariant.0
-    (λ e. c.if-form-ne0.true (n.ensures ∙ ap normal_form w.ensures ∙ e))
-    ∙ ap length c.loop-count.invariant.2
-
 pub overflow_sub-count-in-loop-count : goal.overflow_sub-count-in-loop-count
 overflow_sub-count-in-loop-count c = omega arith
 
@@ -36,15 +27,13 @@ pub loop-count-smaller : goal.loop-count-smaller
 loop-count-smaller c = omega arith
 
 pub loop-count-preserved : goal.loop-count-preserved
-loop-count-preserved c =
-    let w = c.word_at-word in
-    let n = c.normal-form in (
-      omega arith,
-      omega arith,
-      last_hidden (words c.args.store.now) c.loop-count.count c.loop-count-test.true c.loop-count.invariant.0
-          (ap normal_form (sym w.ensures) ∙ sym n.ensures ∙ c.if-form-ne0.false)
-          ∙ c.loop-count.invariant.2,
-    )
+loop-count-preserved c = (
+  omega arith,
+  omega arith,
+  last_hidden (words c.args.store.now) c.loop-count.count c.loop-count-test.true c.loop-count.invariant.0
+      (cc)
+      ∙ c.loop-count.invariant.2,
+)
 
 pub returns : goal.returns
 unfolding shown

@@ -10,16 +10,12 @@ use Rattle.text.specs.Text.{lines}
 use Rattle.microtext.specs.Reading.{reading_at}
 use Rattle.microtext.specs.declared.Reading.TheVariants.{Line}
 use Rattle.microassembler.specs.Assembled.{filled, laid, faulty}
-use Rattle.microassembler.proofs.Filled.{word_line, filled_word, filled_fault, filled_done, wrong_store_lem, long_text, by_lines, line_next}
+use Rattle.microassembler.proofs.Filled.{word_line, filled_word, filled_fault, filled_done, wrong_store_lem, by_lines, line_next}
 use Rattle.microassembler.proofs.assemble.Goals as goal
 
 pub returns-then-is_wrong : goal.returns-then-is_wrong
 returns-then-is_wrong c =
     wrong_store_lem c.args.text.now c.args.store.now (sym c.is_wrong.ensures ∙ c.if-is_wrong.true)
-
-pub returns-then-text-gt8192 : goal.returns-then-text-gt8192
-returns-then-text-gt8192 c =
-    long_text c.args.text.now c.args.store.now (sym c.is_wrong.ensures ∙ c.if-is_wrong.false) c.if-text-gt8192.true
 
 pub loop-at-init : goal.loop-at-init
 loop-at-init c = (search rules, search rules, refl, refl)
@@ -34,7 +30,7 @@ pub returns-in-Faulty : goal.returns-in-Faulty
 returns-in-Faulty c =
     let l = c.loop-at in
     let t = c.args.text.now in
-    by_lines t c.args.store.now (sym c.is_wrong.ensures ∙ c.if-is_wrong.false) (faulty c.in-Faulty.fault) c.if-text-gt8192.false
+    by_lines t c.args.store.now (sym c.is_wrong.ensures ∙ c.if-is_wrong.false) (faulty c.in-Faulty.fault) (omega arith)
     (sym l.invariant.3 ∙ filled_fault t l.at l.k l.made c.in-Faulty.fault c.loop-at-test.true (sym c.read_line-read.ensures ∙ c.in-Faulty.is))
 
 pub overflow_add-k : goal.overflow_add-k
@@ -71,6 +67,6 @@ pub returns : goal.returns
 returns c =
     let l = c.loop-at in
     let t = c.args.text.now in
-    by_lines t c.args.store.now (sym c.is_wrong.ensures ∙ c.if-is_wrong.false) (laid l.made) c.if-text-gt8192.false
+    by_lines t c.args.store.now (sym c.is_wrong.ensures ∙ c.if-is_wrong.false) (laid l.made) (omega arith)
     (sym l.invariant.3 ∙ filled_done t l.made l.k l.at c.loop-at-test.false)
     ∙ ap (λ (ws : List ℕ). record { answer = 0; store = ws }) (sym c.copy_words.ensures)

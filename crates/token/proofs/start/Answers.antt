@@ -10,15 +10,6 @@ loop-i-init c = (refl, refl)
 pub bounds-text-i : goal.bounds-text-i
 bounds-text-i c = omega arith
 
-pub returns-then-text-i-ne32 : goal.returns-then-text-i-ne32
-returns-then-text-i-ne32 c =
-    let l = c.loop-i in
-    record {
-      starts = sym (starts_here c.args.text.now l.i (λ h. c.if-text-i-ne32.true)) ∙ l.invariant.0;
-      same = l.invariant.1;
-      no_space = λ h. c.if-text-i-ne32.true;
-    }
-
 pub overflow_add-i : goal.overflow_add-i
 overflow_add-i c = omega arith
 
@@ -30,7 +21,7 @@ loop-i-preserved c =
     let l = c.loop-i in
     let text = c.args.text.now in
     let h = c.loop-i-test.true in
-    (space_passed text l.i h c.if-text-i-ne32.false ∙ l.invariant.0, one_space text l.i h c.if-text-i-ne32.false ∙ l.invariant.1)
+    (space_passed text l.i h (omega arith) ∙ l.invariant.0, one_space text l.i h (omega arith) ∙ l.invariant.1)
 
 pub returns : goal.returns
 returns c =
