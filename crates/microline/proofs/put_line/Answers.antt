@@ -1,10 +1,10 @@
 -- `put_line` puts the number, the parts, the target and byte 10 in turn; a line has at most 44 bytes.
-use Prim.Native.Nat.{◌+◌}
+use Prim.Native.Nat.{◌+◌, ◌<◌}
 use mathlib.Core.Path.{refl, ap, ◌∙◌}
 use native.Mathlib.Omega.{arith}
 use borrow.Author.Tests.{lt-ltb, le-ltb}
 use mathlib.Core.List.{[], ◌∷◌}
-use lib.ListN.{set, length-append, length-set}
+use lib.ListN.{set, length, length-append, length-set}
 use Rattle.microtext.specs.Listing.{line}
 use Rattle.text.specs.Laid.{Wrote}
 use Rattle.text.proofs.Laid.{◌then◌, same_text}
@@ -14,6 +14,7 @@ use Rattle.microline.proofs.Laws.{line_pieces, line_room, laid_line_lem}
 use Rattle.microword.proofs.Laws.{fields_within}
 use Rattle.microword.specs.Code.Within.{Within}
 use Rattle.microline.proofs.put_line.Goals as goal
+use Rattle.microline.proofs.put_line.Goals.{After-put_target-end}
 
 pub returns-then-room-lt44 : goal.returns-then-room-lt44
 unfolding laid_line
@@ -42,8 +43,9 @@ put_target-end-requires c =
     let p = c.put_parts-behind in
     (fields, omega (arith, n.ensures.behind, n.auto.room, p.ensures.behind, p.auto.room, c.if-room-lt44.false, length-append (short_decimal number) (58 ∷ []), line_room number c.fields_of-m.result fields.sq))
 
-pub bounds-room-end : goal.bounds-room-end
-bounds-room-end c =
+-- Byte 10 has its place behind the target.
+room_left : (c : After-put_target-end) → c.put_target-end.result < length c.put_target-end.new.room
+room_left c =
     let number = c.args.number in
     let fields : Within c.fields_of-m.result = rw c.fields_of-m.ensures (fields_within _) in
     let n = c.put_number-colon in
@@ -51,14 +53,13 @@ bounds-room-end c =
     let t = c.put_target-end in
     omega (arith, n.ensures.behind, n.auto.room, p.ensures.behind, p.auto.room, t.ensures.behind, t.auto.room, c.if-room-lt44.false, length-append (short_decimal number) (58 ∷ []), line_room number c.fields_of-m.result fields.sq)
 
+pub bounds-room-end : goal.bounds-room-end
+bounds-room-end c = room_left (goal.at.bounds-room-end c).After-put_target-end
+
 pub overflow_add-result : goal.overflow_add-result
 overflow_add-result c =
-    let number = c.args.number in
-    let fields : Within c.fields_of-m.result = rw c.fields_of-m.ensures (fields_within _) in
-    let n = c.put_number-colon in
-    let p = c.put_parts-behind in
     let t = c.put_target-end in
-    omega (arith, n.ensures.behind, n.auto.room, p.ensures.behind, p.auto.room, t.ensures.behind, t.auto.room, c.if-room-lt44.false, length-append (short_decimal number) (58 ∷ []), line_room number c.fields_of-m.result fields.sq)
+    omega (arith, room_left (goal.at.overflow_add-result c).After-put_target-end, t.auto.room, c.put_parts-behind.auto.room, c.put_number-colon.auto.room)
 
 pub shape_of-room : goal.shape_of-room
 shape_of-room c =
