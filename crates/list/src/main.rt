@@ -1,5 +1,6 @@
 // The list program: the 256 bytes of a control store on standard input, its listing on standard output, or the answer line.
 #![tactic(auto)]
+
 ghost use Rattle.std.specs.Prelude.{◌≡◌, ◌∷◌, ◌+◌, ◌≤◌, length as lib_length, take, drop};
 ghost use Rattle.io.specs.Counts.{IsPrefixLen};
 ghost use Rattle.list.specs.Listing.{words_of, with_words, told, printed};
@@ -64,14 +65,14 @@ fn text(input: &[u8], room: &mut [u8]) -> usize
 }
 
 // A read that fails prints nothing.
-fn main() {
+fn main(rt: HostRuntime) {
     let mut input = [0u8; 257];
-    let got = console::read_input(b"list", &mut input);
+    let got = console::read_input(&rt, "list", &mut input);
     if got.failed {
         return;
     }
     let n = got.length;
     let mut room = [0u8; 2816];
     let length = text(&input[..n], &mut room);
-    console::print(b"list", &room[..length]);
+    console::print(&rt, "list", &room[..length]);
 }
