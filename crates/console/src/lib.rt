@@ -10,6 +10,7 @@ ghost use Rattle.io.specs.Counts.{IsPrefixLen};
 
 use std::fs::OpenFile;
 use std::io::{Error, Read, Write};
+use std::process::ExitCode;
 use std::rt::Files;
 use std::{fmt, fs};
 use word::Address;
@@ -149,10 +150,14 @@ pub fn read_input(rt: &(impl std::io::Input + Eprint), program: &str, buffer: &m
     }
 }
 
-// A program's output: `write_out`, with a failure said.
-pub fn print(rt: &(impl Print + Eprint + Files), program: &str, text: &[u8]) {
-    if let Err(error) = write_out(rt, text) {
-        say_failed(rt, program, "standard output", error);
+// A program's output: `write_out`, with a failure said. Gives the status that the program ends with.
+pub fn print(rt: &(impl Print + Eprint + Files), program: &str, text: &[u8]) -> ExitCode {
+    match write_out(rt, text) {
+        Ok(()) => ExitCode::SUCCESS,
+        Err(error) => {
+            say_failed(rt, program, "standard output", error);
+            ExitCode::FAILURE
+        }
     }
 }
 
