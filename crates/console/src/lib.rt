@@ -28,6 +28,13 @@ pub struct Input {
     pub failed: bool,
 }
 
+// What came of reading before a failure is said: the failure itself stands in its place.
+#[derive(Clone, Copy)]
+struct Got {
+    length: usize,
+    failure: Option<Error>,
+}
+
 // What the report of a run tells beside the log's words.
 #[derive(Clone, Copy)]
 pub struct Run {
@@ -38,13 +45,6 @@ pub struct Run {
     pub pp: Address,
     pub ac: u16,
     pub count: usize,
-}
-
-// The same before a failure is said, with the failure.
-#[derive(Clone, Copy)]
-struct Got {
-    length: usize,
-    failure: Option<Error>,
 }
 
 // A system's error in the system's words, without the number that std puts behind them.
