@@ -10,6 +10,7 @@ ghost use Rattle.io.specs.Counts.{IsPrefixLen};
 
 use std::fs::OpenFile;
 use std::io::{Error, Read, Write};
+use std::process::ExitCode;
 use std::rt::Files;
 use std::{fmt, fs};
 use word::Address;
@@ -27,6 +28,13 @@ pub struct Input {
     pub failed: bool,
 }
 
+// What came of reading before a failure is said: the failure itself stands in its place.
+#[derive(Clone, Copy)]
+struct Got {
+    length: usize,
+    failure: Option<Error>,
+}
+
 // What the report of a run tells beside the log's words.
 #[derive(Clone, Copy)]
 pub struct Run {
@@ -37,13 +45,6 @@ pub struct Run {
     pub pp: Address,
     pub ac: u16,
     pub count: usize,
-}
-
-// The same before a failure is said, with the failure.
-#[derive(Clone, Copy)]
-struct Got {
-    length: usize,
-    failure: Option<Error>,
 }
 
 // A system's error in the system's words, without the number that std puts behind them.
@@ -149,10 +150,14 @@ pub fn read_input(rt: &(impl std::io::Input + Eprint), program: &str, buffer: &m
     }
 }
 
-// A program's output: `write_out`, with a failure said.
-pub fn print(rt: &(impl Print + Eprint + Files), program: &str, text: &[u8]) {
-    if let Err(error) = write_out(rt, text) {
-        say_failed(rt, program, "standard output", error);
+// A program's output: `write_out`, with a failure said. Gives the status that the program ends with.
+pub fn print(rt: &(impl Print + Eprint + Files), program: &str, text: &[u8]) -> ExitCode {
+    match write_out(rt, text) {
+        Ok(()) => ExitCode::SUCCESS,
+        Err(error) => {
+            say_failed(rt, program, "standard output", error);
+            ExitCode::FAILURE
+        }
     }
 }
 

@@ -1,11 +1,13 @@
 // The list program: the 256 bytes of a control store on standard input, its listing on standard output, or the answer line.
 #![tactic(auto)]
+
 ghost use Rattle.std.specs.Prelude.{◌≡◌, ◌∷◌, ◌+◌, ◌≤◌, length as lib_length, take, drop};
 ghost use Rattle.io.specs.Counts.{IsPrefixLen};
 ghost use Rattle.list.specs.Listing.{words_of, with_words, told, printed};
 ghost use Rattle.lister.specs.Answers.{seen};
 
 use lister::Answer;
+use std::process::ExitCode;
 use word::Line;
 
 // The lines of a control store.
@@ -64,14 +66,14 @@ fn text(input: &[u8], room: &mut [u8]) -> usize
 }
 
 // A read that fails prints nothing.
-fn main() {
+fn main(rt: HostRuntime) -> ExitCode {
     let mut input = [0u8; 257];
-    let got = console::read_input(b"list", &mut input);
+    let got = console::read_input(&rt, "list", &mut input);
     if got.failed {
-        return;
+        return ExitCode::FAILURE;
     }
     let n = got.length;
     let mut room = [0u8; 2816];
     let length = text(&input[..n], &mut room);
-    console::print(b"list", &room[..length]);
+    console::print(&rt, "list", &room[..length])
 }

@@ -1,11 +1,13 @@
 // The run program: an image on standard input, the report of 1,000 instructions on standard output, or the answer line.
 #![tactic(auto)]
+
 ghost use Rattle.std.specs.Prelude.{◌≡◌, ◌≤◌, length as lib_length, take};
 ghost use Rattle.io.specs.Counts.{IsPrefixLen};
 ghost use Rattle.run.specs.Report.{ran, printed};
 
 use console::Run;
 use instruction::Cpu;
+use std::process::ExitCode;
 use word::Address;
 
 // The bytes of the longest image.
@@ -65,14 +67,14 @@ fn text(input: &[u8], room: &mut [u8]) -> usize
 }
 
 // A read that fails runs nothing.
-fn main() {
+fn main(rt: HostRuntime) -> ExitCode {
     let mut input = [0u8; 16369];
-    let got = console::read_input(b"run", &mut input);
+    let got = console::read_input(&rt, "run", &mut input);
     if got.failed {
-        return;
+        return ExitCode::FAILURE;
     }
     let n = got.length;
     let mut room = [0u8; 512];
     let length = text(&input[..n], &mut room);
-    console::print(b"run", &room[..length]);
+    console::print(&rt, "run", &room[..length])
 }

@@ -5,7 +5,7 @@ use Rattle.console.proofs.Laws.{ended, shown_put, not_shown}
 use Rattle.console.proofs.refusal.Goals as goal
 
 pub returns-then-room-lt-ROOM : goal.returns-then-room-lt-ROOM
-returns-then-room-lt-ROOM c = not_shown _ _ c.if-room-lt-ROOM.true
+returns-then-room-lt-ROOM c = not_shown _ _ (omega arith)
 
 pub returns : goal.returns
 unfolding refusal

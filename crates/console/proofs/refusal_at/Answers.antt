@@ -8,7 +8,7 @@ use Rattle.console.proofs.Laws.{ended, shown_put, not_shown}
 use Rattle.console.proofs.refusal_at.Goals as goal
 
 pub returns-then-room-lt-ROOM : goal.returns-then-room-lt-ROOM
-returns-then-room-lt-ROOM c = not_shown _ _ c.if-room-lt-ROOM.true
+returns-then-room-lt-ROOM c = not_shown _ _ (omega arith)
 
 pub shape_of-room : goal.shape_of-room
 shape_of-room c = let w = c.put_labelled-end in

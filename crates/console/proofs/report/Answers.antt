@@ -11,7 +11,7 @@ use Rattle.console.proofs.Laws.{shown_put, not_shown}
 use Rattle.console.proofs.report.Goals as goal
 
 pub returns-then-room-lt-ROOM : goal.returns-then-room-lt-ROOM
-returns-then-room-lt-ROOM c = not_shown _ _ c.if-room-lt-ROOM.true
+returns-then-room-lt-ROOM c = not_shown _ _ (omega arith)
 
 pub slice_bounds-put_words-end : goal.slice_bounds-put_words-end
 slice_bounds-put_words-end c = sym (length-take-le c.held-count.result c.args.log.now (omega (arith, c.held-count.ensures.0)))
