@@ -17,7 +17,7 @@ pub fn behind_line(end: usize, last: usize) -> usize
 
 // Lays `text` from `at` on and answers where it ends. Where it would pass the room's end nothing is laid.
 pub fn put(room: &mut [u8], at: usize, text: &[u8]) -> usize
-    ensures { laid room.entry.now at text.now ≡ record { room = room.exit.now; next = result } }
+    ensures { laid room.old at text.now ≡ record { room = room.new; next = result } }
 {
     if room.len() < text.len() {
         return at;
