@@ -9,9 +9,9 @@ ghost use Rattle.console.specs.Code.Shown.{shown};
 ghost use Rattle.io.specs.Counts.{IsPrefixLen};
 
 use std::fs::OpenFile;
-use std::io::{Error, Read, Write};
+use std::io::{Error, ErrorKind, Read, Write};
+use std::os::fd::AsFd;
 use std::process::ExitCode;
-use std::rt::Files;
 use std::{fmt, fs};
 use word::Address;
 
@@ -107,42 +107,57 @@ fn read_all(reader: &mut impl Read, buffer: &mut [u8]) -> Got
     }
 }
 
-// Writes a text to standard output, and fails where bytes were lost.
-fn write_out(rt: &(impl Print + Files), text: &[u8]) -> std::io::Result<()> {
-    let mut out = std::io::writer(rt);
+// Writes a text to standard output, and fails where bytes were lost. Of none, a closed output is told by the copy of its descriptor that cannot be made.
+fn write_out(rt: &HostRuntime, text: &[u8]) -> std::io::Result<()> {
+    let mut out = rt.stdout();
+    if text.is_empty() {
+        out.as_fd().try_clone_to_owned()?;
+        return Ok(());
+    }
     out.write_all(text)?;
-    out.flush()?;
     sync_out(rt)
 }
 
-// Syncs standard output where it is a file, since some systems say only then that bytes were lost. What cannot be opened by its name is left as it is.
-fn sync_out(rt: &impl Files) -> std::io::Result<()> {
+// Syncs standard output where it is a file, since some systems say only then that bytes were lost. What cannot be opened by its name, or is no file to sync, stays as written.
+fn sync_out(rt: &HostRuntime) -> std::io::Result<()> {
     let Ok(found) = fs::metadata(rt, OUTPUT) else {
         return Ok(());
     };
     if !found.is_file() {
         return Ok(());
     }
-    let Ok(file) = fs::open(rt, OUTPUT) else {
+    let Ok(file) = fs::OpenOptions::new().write(true).open(rt, OUTPUT) else {
         return Ok(());
     };
-    file.sync_all()
+    match file.sync_all() {
+        Err(error)
+            if matches!(
+                error.kind(),
+                ErrorKind::InvalidInput | ErrorKind::Unsupported
+            ) => { Ok(()) }
+        synced => synced,
+    }
 }
 
-// Says on standard error which program's stream failed, and why, in one line. What standard error doesn't take is lost.
-fn say_failed(rt: &impl Eprint, program: &str, stream: &str, error: Error) {
+// Says on standard error which program's stream failed, and why: one line, the name and the stream within 64 bytes. What standard error doesn't take is lost.
+fn say_failed(rt: &HostRuntime, program: &[u8], stream: &[u8], error: Error) {
+    let mut what = [0u8; 64];
+    let at = text::put(&mut what, 0, program);
+    let end = text::put(&mut what, at, stream);
     let reason = Reason { error };
-    let _ = eprintln!(rt; "{program}: {stream}: {reason}");
+    let mut out = rt.stderr();
+    let _ = out.write_all(&what[..end]);
+    let _ = writeln!(out, ": {reason}");
 }
 
 // A program's input: `read_all` of standard input, with a failure said.
-pub fn read_input(rt: &(impl std::io::Input + Eprint), program: &str, buffer: &mut [u8]) -> Input
+pub fn read_input(rt: &HostRuntime, program: &[u8], buffer: &mut [u8]) -> Input
     ensures { IsPrefixLen result.length buffer.new }
 {
-    let mut reader = rt.reader();
+    let mut reader = rt.stdin();
     let got = read_all(&mut reader, buffer);
     if let Some(error) = got.failure {
-        say_failed(rt, program, "standard input", error);
+        say_failed(rt, program, b": standard input", error);
     }
     Input {
         length: got.length,
@@ -151,11 +166,11 @@ pub fn read_input(rt: &(impl std::io::Input + Eprint), program: &str, buffer: &m
 }
 
 // A program's output: `write_out`, with a failure said. Gives the status that the program ends with.
-pub fn print(rt: &(impl Print + Eprint + Files), program: &str, text: &[u8]) -> ExitCode {
+pub fn print(rt: &HostRuntime, program: &[u8], text: &[u8]) -> ExitCode {
     match write_out(rt, text) {
         Ok(()) => ExitCode::SUCCESS,
         Err(error) => {
-            say_failed(rt, program, "standard output", error);
+            say_failed(rt, program, b": standard output", error);
             ExitCode::FAILURE
         }
     }

@@ -68,12 +68,12 @@ fn text(input: &[u8], room: &mut [u8]) -> usize
 // A read that fails prints nothing.
 fn main(rt: HostRuntime) -> ExitCode {
     let mut input = [0u8; 257];
-    let got = console::read_input(&rt, "list", &mut input);
+    let got = console::read_input(&rt, b"list", &mut input);
     if got.failed {
         return ExitCode::FAILURE;
     }
     let n = got.length;
     let mut room = [0u8; 2816];
     let length = text(&input[..n], &mut room);
-    console::print(&rt, "list", &room[..length])
+    console::print(&rt, b"list", &room[..length])
 }

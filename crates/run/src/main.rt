@@ -69,12 +69,12 @@ fn text(input: &[u8], room: &mut [u8]) -> usize
 // A read that fails runs nothing.
 fn main(rt: HostRuntime) -> ExitCode {
     let mut input = [0u8; 16369];
-    let got = console::read_input(&rt, "run", &mut input);
+    let got = console::read_input(&rt, b"run", &mut input);
     if got.failed {
         return ExitCode::FAILURE;
     }
     let n = got.length;
     let mut room = [0u8; 512];
     let length = text(&input[..n], &mut room);
-    console::print(&rt, "run", &room[..length])
+    console::print(&rt, b"run", &room[..length])
 }
