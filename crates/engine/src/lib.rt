@@ -67,6 +67,7 @@ pub struct Ran {
 }
 
 // Refusals 1 to 4, in order, or nothing to refuse.
+#[tactic(auto, unfolding(crate::specs::Run::refusal, crate::specs::Run::refusal_by))]
 fn check(store: &[u32], memory: &[u16], input: &[u16], log: &[u16], machine: Machine) -> Answer
     ensures { saying result ≡ refusal store.now input.now (state_of machine memory.now log.now) }
 {

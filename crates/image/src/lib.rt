@@ -185,6 +185,7 @@ pub fn read(image: &[u8], memory: &mut [u16]) -> Answer
 }
 
 // Puts a word's record into the room, and none for a word that is 0. Gives where it ends.
+#[tactic(auto, unfolding(crate::specs::Records::bytes), using(text::proofs::Laid::nothing))]
 fn put(room: &mut [u8], at: usize, address: Address, value: u16) -> usize
     requires { at + 4 ≤ length room.old }
     ensures { Wrote room.old at (bytes (record_of address.0 value)) room.new result }

@@ -89,7 +89,7 @@ fn put_lines(room: &mut [u8], store: &[u32], count: usize) -> usize
 }
 
 // How many words there are up to the last whose normal form is not 0.
-#[tactic(auto, using(crate::proofs::Laws::last_shown))]
+#[tactic(auto, using(crate::proofs::Laws::last_shown, crate::proofs::Laws::last_hidden))]
 fn shown_words(store: &[u32]) -> usize
     requires { length (words store.now) ≡ 64 }
     ensures { result ≡ length (shown (words store.now)) }

@@ -37,6 +37,7 @@ fn half_number(half: Half) -> usize
 }
 
 // The control line for the engine, 64 where its machine has no such line or half done.
+#[tactic(auto, unfolding(crate::specs::Engine::line_of))]
 fn line_of(line: usize, half: usize) -> Line
     ensures { result.0 ≡ line_of line half }
 {

@@ -2,14 +2,9 @@
 use native.Mathlib.Numerals.{towards_suc}
 use native.Mathlib.Omega.{arith}
 use lib.ListN.{length-set}
-use borrow.Author.Tests.{eq-eqb, ne_eqb}
-use Rattle.text.proofs.Laid.{nothing}
+use borrow.Author.Tests.{ne_eqb}
 use Rattle.image.specs.Records.{bytes}
 use Rattle.image.proofs.put.Goals as goal
-
-pub returns-then-value-eq0 : goal.returns-then-value-eq0
-unfolding bytes
-returns-then-value-eq0 c = rw (eq-eqb c.args.value 0 (omega arith)) nothing
 
 pub bounds-room-at-2 : goal.bounds-room-at-2
 bounds-room-at-2 c = simp length-set (omega arith)
@@ -22,5 +17,5 @@ bounds-room-at-4 c = simp length-set (omega arith)
 
 pub returns : goal.returns
 unfolding bytes
-returns c = let some = ne_eqb _ _ c.if-value-eq0.false in
+returns c = let some = ne_eqb c.args.value 0 (λ e. omega arith) in
     record { stored = simp (some, c.to_bytes-front.ensures, c.to_bytes-back.ensures, towards_suc); behind = rw some }

@@ -4,6 +4,7 @@ use mathlib.Core.Path.{sym, ap, ◌∙◌}
 use mathlib.Core.List.{List}
 use borrow.Author.Tests.{eq-eqb, ne_eqb}
 use native.Mathlib.Omega.{arith}
+use lib.ListN.{length}
 use Rattle.console.proofs.Laws.{front}
 use Rattle.list.proofs.Laws.{listed_within}
 use Rattle.lister.specs.Answers.{listed}
@@ -30,7 +31,7 @@ returns c = let room = c.args.room.now in
     let told-so = c.tell.ensures in
     record {
       room_after =
-          rw (eq-eqb _ _ c.if-input-ne256.false)
+          rw (eq-eqb (length c.args.input.now) 256 (omega arith))
           (told-so.room_after ∙ ap told (sym c.list-listed.ensures) ∙ ap (λ (store : List ℕ). told (listed store room)) c.fill.ensures);
       prefix_len = told-so.prefix_len;
     }

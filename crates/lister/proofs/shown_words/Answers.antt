@@ -3,7 +3,6 @@ use lib.Seq.{take_all}
 use native.Mathlib.Omega.{arith}
 use lib.ListN.{length}
 use mathlib.Core.Path.{◌≡◌, ap, ◌∙◌}
-use Rattle.lister.proofs.Laws.{last_hidden}
 use Rattle.microtext.specs.Listing.{shown}
 use Rattle.store.specs.Store.{words}
 use Rattle.lister.proofs.shown_words.Goals as goal
@@ -25,15 +24,6 @@ overflow_sub-count-in-loop-count c = omega arith
 
 pub loop-count-smaller : goal.loop-count-smaller
 loop-count-smaller c = omega arith
-
-pub loop-count-preserved : goal.loop-count-preserved
-loop-count-preserved c = (
-  omega arith,
-  omega arith,
-  last_hidden (words c.args.store.now) c.loop-count.count c.loop-count-test.true c.loop-count.invariant.0
-      (cc)
-      ∙ c.loop-count.invariant.2,
-)
 
 pub returns : goal.returns
 unfolding shown

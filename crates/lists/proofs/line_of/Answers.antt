@@ -5,10 +5,6 @@ use borrow.Author.Tests.{lt-ltb, le-ltb}
 use Rattle.lists.specs.Engine.{line_of}
 use Rattle.lists.proofs.line_of.Goals as goal
 
-pub returns-then-half-gt2 : goal.returns-then-half-gt2
-unfolding line_of
-returns-then-half-gt2 c = let above : 2 < c.args.half = omega arith in rw (lt-ltb _ _ above)
-
 pub returns-then-line-lt64 : goal.returns-then-line-lt64
 unfolding line_of
 returns-then-line-lt64 c =

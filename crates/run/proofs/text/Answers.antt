@@ -1,5 +1,5 @@
 -- `text`: 25 before all else; then what the image reader refuses is told, and what it read is run.
-use mathlib.Core.Path.{sym, ap, ◌∙◌}
+use mathlib.Core.Path.{◌≡◌, sym, ap, ◌∙◌}
 use native.Mathlib.Omega.{arith}
 use lib.ListN.{length}
 use borrow.Author.Tests.{lt-ltb}
@@ -21,6 +21,8 @@ returns-then-answer-ne0 c = let shown = front _ _ _ _ c.requires c.refusal-then-
     record { room_after = shown.stands ∙ ap refusal n ∙ sym refused; prefix_len = shown.counted }
 
 pub returns : goal.returns
-returns c = let r = c.run_memory.ensures in
-    let ran = ran_text _ _ _ c.if-input-gt-LONGEST.false c.read-read.ensures (sym c.number-answer.ensures ∙ c.if-answer-ne0.false) in
+returns c =
+    let r = c.run_memory.ensures in
+    let accepted : c.number-answer.result ≡ 0 = omega arith in
+    let ran = ran_text _ _ _ c.if-input-gt-LONGEST.false c.read-read.ensures (sym c.number-answer.ensures ∙ accepted) in
     record { room_after = r.room_after ∙ sym ran; prefix_len = r.prefix_len }
