@@ -100,7 +100,7 @@ abbrev pub machine_in : State → Machine
 machine_in s = record { line = record { 0 = s.line }; registers = s.registers; half = s.half; place = s.place; count = s.count }
 
 -- No number of a refusal is that of a run that is done or stopped.
-apart : (stop : Option Stop) (r : Refusal) → number_of stop ≡ number r → ⊥
+pub apart : (stop : Option Stop) (r : Refusal) → number_of stop ≡ number r → ⊥
 apart stop (Lent WrongSize) e = number_apart stop 1 (omega arith) (omega arith) e
 apart stop (Lent PastEnd) e = number_apart stop 2 (omega arith) (omega arith) e
 apart stop (Lent OutOfRange) e = number_apart stop 3 (omega arith) (omega arith) e
