@@ -58,11 +58,7 @@ impl Token {
         if bytes.is_empty() {
             return None;
         }
-        let mut token = Token(1);
-        for c in bytes {
-            token = token.grown(*c);
-        }
-        Some(token)
+        Some(bytes.iter().fold(Token(1), |token, c| token.grown(*c)))
     }
 }
 
