@@ -2,11 +2,13 @@
 #![tactic(auto)]
 
 ghost use Rattle.std.specs.Prelude.{◌≡◌, List, ℕ, MatchResult};
-ghost use Rattle.engine.specs.Run.{ended_by};
+ghost use Rattle.bus.specs.Stops.{number_of};
+ghost use Rattle.engine.specs.Run.{named, ended_by};
 ghost use Rattle.interpreter.specs.Run.{ended_by as interpreter_ended_by};
 ghost use Rattle.lists.specs.Engine.{machine_of, counted, leaves};
 ghost use Rattle.lists.specs.Interpreter.{cpu_of, leaves as interpreter_leaves};
 
+use bus::Stop;
 use datapath::Half;
 use engine::{Machine, Ran, Refusal};
 use instruction::{Core, Cpu};
@@ -21,6 +23,20 @@ pub fn answer_of<T: Drop, E: Drop + Into<u32>>(called: Result<T, E>) -> u32
         Ok(_) => 0,
         Err(refusal) => refusal.into(),
     }
+}
+
+// The answer number of a run that was not refused: 0 where nothing stopped it.
+pub fn number_of(stop: Option<Stop>) -> u32
+    ensures { result ≡ number_of stop }
+{
+    stop.map_or(0, u32::from)
+}
+
+// The line that a refusal names, else 0.
+fn line_named(refusal: Refusal) -> usize
+    ensures { result ≡ named refusal }
+{
+    refusal.line().map_or(0, |line| line.0 as usize)
 }
 
 // The machine that a caller's registers and state stand for. A line or half done that the machine has not goes as line 64, which the engine refuses.
@@ -45,7 +61,7 @@ pub fn machine_of(registers: [u16; 8], state: [usize; 4]) -> Machine
 }
 
 // What the engine's run left goes back to the caller's lists; a refusal leaves registers and state as found.
-#[tactic(auto, unfolding(crate::specs::Engine::leaves))]
+#[tactic(auto, using(crate::proofs::Handed::ran_leaves, crate::proofs::Handed::refused_leaves))]
 pub fn hand_back_engine(
     ran: Result<Ran, Refusal>,
     registers: &mut [u16; 8],
@@ -60,7 +76,8 @@ pub fn hand_back_engine(
             done,
             stop,
         }) => {
-            *registers = machine.registers;
+            let held = machine.registers;
+            *registers = held;
             *state = [
                 machine.place,
                 machine.count,
@@ -68,10 +85,10 @@ pub fn hand_back_engine(
                 machine.half.into(),
             ];
             *told = [done as usize, 0];
-            stop.map_or(0, u32::from)
+            number_of(stop)
         }
         Err(refusal) => {
-            *told = [0, refusal.line().map_or(0, |line| line.0 as usize)];
+            *told = [0, line_named(refusal)];
             refusal.into()
         }
     }
@@ -125,7 +142,7 @@ pub fn hand_back_interpreter(
             *registers = [core.cp.0, core.ac, core.pp.0];
             *state = [core.place, count];
             *told = [done as u64, cycles];
-            stop.map_or(0, u32::from)
+            number_of(stop)
         }
         Err(refusal) => {
             *told = [0, 0];
