@@ -71,11 +71,13 @@ pub fn hand_back_engine(
     ensures { (machine : Machine) (memory log : List ℕ) → leaves (ended_by machine ran memory log) registers.old state.old ≡ record { answer = result; registers = registers.new; state = state.new; memory = memory; log = log; told = told.new } }
 {
     match ran {
-        Ok(Ran {
-            machine,
-            done,
-            stop,
-        }) => {
+        Ok(
+            Ran {
+                machine,
+                done,
+                stop,
+            },
+        ) => {
             let held = machine.registers;
             *registers = held;
             *state = [
@@ -101,7 +103,10 @@ pub fn counted(pressed: Result<Pressed, Refusal>) -> Result<Ran, Refusal>
     let pressed = pressed?;
     Ok(Ran {
         machine: pressed.machine,
-        done: if pressed.stop.is_none() { 1 } else { 0 },
+        done: match pressed.stop {
+            None => 1,
+            Some(_) => 0,
+        },
         stop: pressed.stop,
     })
 }
@@ -133,12 +138,14 @@ pub fn hand_back_interpreter(
     ensures { (memory log : List ℕ) → interpreter_leaves (interpreter_ended_by (cpu_of registers.old state.old) ran memory log) ≡ record { answer = result; registers = registers.new; state = state.new; memory = memory; log = log; told = told.new } }
 {
     match ran {
-        Ok(interpreter::Ran {
-            cpu: Cpu { core, count },
-            done,
-            cycles,
-            stop,
-        }) => {
+        Ok(
+            interpreter::Ran {
+                cpu: Cpu { core, count },
+                done,
+                cycles,
+                stop,
+            },
+        ) => {
             *registers = [core.cp.0, core.ac, core.pp.0];
             *state = [core.place, count];
             *told = [done as u64, cycles];
