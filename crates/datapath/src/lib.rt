@@ -53,13 +53,16 @@ pub fn keep_in(register: u32, value: u16) -> u16
 }
 
 // Whether SQ sends this cycle to END, by N and Z of its full result.
+#[tactic(auto, unfolding(crate::specs::Result::jumps))]
 pub fn does_jump(sq: u32, res: u16) -> bool
     ensures { result ≡ jumps sq (negative res) (is_zero res) }
 {
-    if 3 <= sq {
-        return true;
+    match sq {
+        0 => false,
+        1 => 32768 <= res,
+        2 => res == 0,
+        _ => true,
     }
-    ((sq == 1) & (32768 <= res)) | ((sq == 2) & (res == 0))
 }
 
 // A cycle's transfer, with REM and RDM as they stand after its store. A cycle with RD completes a read that was left half done, else
