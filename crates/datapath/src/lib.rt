@@ -16,6 +16,39 @@ pub enum Half {
     Write,
 }
 
+// A number that says nothing of what is half done.
+#[derive(Clone, Copy, Debug, PartialEq, Eq)]
+pub struct UnknownHalf(pub usize);
+
+impl From<Half> for usize {
+    ghost use Rattle.datapath.specs.Halves.{half_number};
+    ghost from_gives = { λ half n. n ≡ half_number half };
+
+    fn from(half: Half) -> usize {
+        match half {
+            Half::Nothing => 0,
+            Half::Read => 1,
+            Half::Write => 2,
+        }
+    }
+}
+
+impl TryFrom<usize> for Half {
+    type Error = UnknownHalf;
+
+    ghost use Rattle.datapath.specs.Halves.{Numbers};
+    ghost try_from_gives = { Numbers };
+
+    fn try_from(number: usize) -> Result<Self, UnknownHalf> {
+        match number {
+            0 => Ok(Half::Nothing),
+            1 => Ok(Half::Read),
+            2 => Ok(Half::Write),
+            _ => Err(UnknownHalf(number)),
+        }
+    }
+}
+
 // What a transfer changes beside memory and log: RDM, what is half done, the input place and the log count.
 #[derive(Clone, Copy)]
 pub struct Moving {

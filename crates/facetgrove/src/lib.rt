@@ -69,8 +69,7 @@ pub extern "C" fn facetgrove_interpreter_run(
 pub extern "C" fn facetgrove_micro_assemble(text: &[u8], store: &mut [u32]) -> u32
     ensures { assembled text.now store.old ≡ record { answer = result; store = store.new } }
 {
-    let answer = microassembler::assemble(text, store);
-    answer.number()
+    lists::answer_of(microassembler::assemble(text, store))
 }
 
 // A control store's listing, at the start of the room.
@@ -83,9 +82,11 @@ pub extern "C" fn facetgrove_micro_list(
     ensures { list_called store.now room.old ≡ record { answer = result; room = room.new; told = told.new } }
 {
     let listed = lister::list(store, room);
-    let answer = listed.answer;
-    *told = [listed.length, answer.line()];
-    answer.number()
+    *told = match listed {
+        Ok(length) => [length, 0],
+        Err(refusal) => [0, refusal.line().map_or(0, |line| line.0 as usize)],
+    };
+    lists::answer_of(listed)
 }
 
 // An image to a memory.
@@ -93,8 +94,7 @@ pub extern "C" fn facetgrove_micro_list(
 pub extern "C" fn facetgrove_image_read(image: &[u8], memory: &mut [u16]) -> u32
     ensures { reading image.now memory.old ≡ record { answer = result; memory = memory.new } }
 {
-    let answer = image::read(image, memory);
-    answer.number()
+    lists::answer_of(image::read(image, memory))
 }
 
 // A memory's image, at the start of the room.
@@ -107,9 +107,8 @@ pub extern "C" fn facetgrove_image_write(
     ensures { write_called memory.now room.old ≡ record { answer = result; room = room.new; told = length.new } }
 {
     let written = image::write(memory, room);
-    let answer = written.answer;
-    *length = [written.length];
-    answer.number()
+    *length = [written.unwrap_or(0)];
+    lists::answer_of(written)
 }
 
 // The printed microprogram.
@@ -117,6 +116,5 @@ pub extern "C" fn facetgrove_image_write(
 pub extern "C" fn facetgrove_printed_store(store: &mut [u32; 64])
     ensures { store.new ≡ printed }
 {
-    let printed = printed::store();
-    *store = printed;
+    *store = printed::store();
 }
