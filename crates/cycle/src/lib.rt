@@ -14,12 +14,13 @@ const REM: usize = 6;
 
 const RDM: usize = 7;
 
-// What a cycle changes beside registers, memory and log: the control line, what is half done, the input place and the log count.
+// What a cycle changes beside registers, memory and log: the control line, the input place, what is half done and the log count.
+// Line and half done stand apart: side by side the compiler packs them into one processor register and takes them apart in each cycle.
 #[derive(Clone, Copy)]
 pub struct Standing {
     pub line: Line,
-    pub half: Half,
     pub place: usize,
+    pub half: Half,
     pub count: usize,
 }
 

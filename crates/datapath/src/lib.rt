@@ -8,9 +8,6 @@ ghost use Rattle.datapath.specs.Transfer.{transferred, moved};
 use bus::{Ports, Stop};
 use word::Address;
 
-// The bits that each register keeps: of CP, PP and REM the low 12.
-const KEPT: [u16; 8] = [4095, 65535, 4095, 65535, 65535, 65535, 4095, 65535];
-
 // What a cycle leaves half done.
 #[derive(Clone, Copy, Debug, PartialEq, Eq)]
 pub enum Half {
@@ -79,20 +76,27 @@ pub fn compute(f: u32, a: u16, b: u16) -> u16
 }
 
 // What a register keeps of a value: CP, PP and REM the low 12 bits.
+#[tactic(auto, unfolding(crate::specs::Result::keeps))]
 pub fn keep_in(register: u32, value: u16) -> u16
     ensures { result ≡ keeps register value }
 {
-    value & KEPT.get(register as usize).copied().unwrap_or(65535)
+    match register {
+        0 | 2 | 6 => Address::of(value).0,
+        _ => value,
+    }
 }
 
 // Whether SQ sends this cycle to END, by N and Z of its full result.
+#[tactic(auto, unfolding(crate::specs::Result::jumps))]
 pub fn does_jump(sq: u32, res: u16) -> bool
     ensures { result ≡ jumps sq (negative res) (is_zero res) }
 {
-    if 3 <= sq {
-        return true;
+    match sq {
+        0 => false,
+        1 => 32768 <= res,
+        2 => res == 0,
+        _ => true,
     }
-    ((sq == 1) & (32768 <= res)) | ((sq == 2) & (res == 0))
 }
 
 // A cycle's transfer, with REM and RDM as they stand after its store. A cycle with RD completes a read that was left half done, else
