@@ -182,37 +182,21 @@ fn pop_to_below(memory: &mut [u16; 4096], own: Core) -> Option<Passed>
 fn act_below(code: u32, x: Address, memory: &mut [u16; 4096], own: Core) -> Option<Passed>
     ensures { Plain (λ input s. action input code x.0 s) own memory.old result memory.new }
 {
+    let plus = |m| word::add(own.ac, m);
+    let minus = |m| word::subtract(own.ac, m);
     match code {
         0 => gain_below(9, memory, own, x, |m| m),
         1 => write_below(9, memory, own, x, own.ac),
-        2 => gain_below(9, memory, own, x, |m| word::add(own.ac, m)),
-        3 => gain_below(9, memory, own, x, |m| word::subtract(own.ac, m)),
-        4 => gain_below(10, memory, own, own.pp.plus(x), |m| word::add(own.ac, m)),
-        5 => gain_below(
-            9,
-            memory,
-            own,
-            own.pp.plus(x),
-            |m| word::subtract(own.ac, m),
-        ),
-        6 => {
-            if own.ac == 0 {
-                return jump_below(8, own, x);
-            }
-            Some(Passed {
-                core: own,
-                cycles: 8,
-            })
-        }
-        7 => {
-            if 32768 <= own.ac {
-                return jump_below(8, own, x);
-            }
-            Some(Passed {
-                core: own,
-                cycles: 8,
-            })
-        }
+        2 => gain_below(9, memory, own, x, plus),
+        3 => gain_below(9, memory, own, x, minus),
+        4 => gain_below(10, memory, own, own.pp.plus(x), plus),
+        5 => gain_below(9, memory, own, own.pp.plus(x), minus),
+        6 if own.ac == 0 => jump_below(8, own, x),
+        7 if 32768 <= own.ac => jump_below(8, own, x),
+        6 | 7 => Some(Passed {
+            core: own,
+            cycles: 8,
+        }),
         8 => jump_below(7, own, x),
         9 => Some(Passed {
             core: Core { ac: x.0, ..own },
