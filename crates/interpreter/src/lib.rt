@@ -215,6 +215,7 @@ fn carry_out_below(memory: &mut [u16; 4096], own: Core) -> Option<Passed>
 
 // As many of n instructions, from a stage on, as come before the first that meets a port.
 #[inline(never)]
+#[tactic(auto, using(crate::proofs::BelowPorts::stages))]
 fn pass_below(memory: &mut [u16; 4096], from: Stage, n: u32) -> Stage
     requires within { from.done ≤ n }
     requires spent { from.cycles ≤ 11 * from.done }
@@ -241,6 +242,7 @@ fn pass_below(memory: &mut [u16; 4096], from: Stage, n: u32) -> Stage
 }
 
 // That many single instructions in turn: below the ports as long as none is met, then one through them, and so on.
+#[tactic(auto, using(crate::proofs::BelowPorts::stages))]
 fn carry_out_all(memory: &mut [u16; 4096], input: &[u16], log: &mut [u16], cpu: Cpu, n: u32) -> Ran
     ensures { instructions input.now n (state_of cpu memory.old log.old) ≡ ended_with result memory.new log.new }
 {
