@@ -54,3 +54,6 @@ module _ (n : ℕ) (input memory log : List ℕ) where
   pub ends : (at : Stage) → at.done ≡ n → rest n at input memory log ≡ ended_with (record { cpu = at.cpu; done = at.done; cycles = at.cycles; stop = None }) memory log
   unfolding instructions
   ends at e = T.ends (instruct input) (state_of at.cpu memory log) at.cycles (omega arith)
+
+-- What the search goes by where a stage is begun, ends, or takes cycles.
+pub ruleset stages = (paid_below, begins, ends)

@@ -1,5 +1,5 @@
 // The direct interpreter: a run of instructions.
-#![tactic(auto)]
+#![tactic(auto, unfolding(instruction::specs::Instruction::sets, instruction::specs::Instruction::stores, instruction::specs::Instruction::gains, instruction::specs::Instruction::branches, bus::specs::Ports::read_at, bus::specs::Ports::write_at, bus::specs::Ports::goes, bus::specs::Ports::sent))]
 
 ghost use Rattle.std.specs.Prelude.{◌≡◌, ℕ, List, ◌*◌, ◌≤◌, true, length};
 ghost use Rattle.word.specs.Number.{kept, sum, difference};
@@ -66,7 +66,6 @@ fn word_below(memory: &[u16; 4096], address: Address) -> Option<u16>
 }
 
 // AC becomes what f makes of the word at an address.
-#[tactic(auto, unfolding(instruction::specs::Instruction::gains, instruction::specs::Instruction::sets, bus::specs::Ports::read_at))]
 fn gain_below<F: FnOnce(u16) -> u16>(
     cycles: u64,
     memory: &[u16; 4096],
@@ -85,7 +84,6 @@ fn gain_below<F: FnOnce(u16) -> u16>(
 }
 
 // A jump to a port is left undone too: where it is taken, the branch must not become a choice of values.
-#[tactic(auto, unfolding(instruction::specs::Instruction::branches, instruction::specs::Instruction::sets))]
 fn jump_below(cycles: u64, own: Core, x: Address) -> Option<Passed>
     ensures { (memory : List ℕ) → Done (λ input s. branches cycles s true x.0) own memory result memory }
 {
@@ -99,7 +97,6 @@ fn jump_below(cycles: u64, own: Core, x: Address) -> Option<Passed>
 }
 
 // The registers stay, and a word is written to an address.
-#[tactic(auto, unfolding(instruction::specs::Instruction::stores, bus::specs::Ports::write_at, bus::specs::Ports::goes, bus::specs::Ports::sent))]
 fn write_below(
     cycles: u64,
     memory: &mut [u16; 4096],
@@ -117,7 +114,6 @@ fn write_below(
 }
 
 // A word goes from one address to another.
-#[tactic(auto, unfolding(bus::specs::Ports::read_at, instruction::specs::Instruction::stores))]
 fn copy_below(memory: &mut [u16; 4096], own: Core, from: Address, to: Address) -> Option<Passed>
     ensures { Plain (λ input s. copies input s s.pp from.0 to.0) own memory.old result memory.new }
 {
@@ -126,7 +122,6 @@ fn copy_below(memory: &mut [u16; 4096], own: Core, from: Address, to: Address) -
 }
 
 // CALL and PUSH: a word is pushed.
-#[tactic(auto, unfolding(instruction::specs::Instruction::stores))]
 fn push_below(memory: &mut [u16; 4096], own: Core, word: u16) -> Option<Passed>
     ensures { Plain (λ input s. pushes s s.cp word) own memory.old result memory.new }
 {
@@ -135,7 +130,6 @@ fn push_below(memory: &mut [u16; 4096], own: Core, word: u16) -> Option<Passed>
 }
 
 // RETN
-#[tactic(auto, unfolding(instruction::specs::Instruction::sets, bus::specs::Ports::read_at))]
 fn return_below(memory: &[u16; 4096], own: Core) -> Option<Passed>
     ensures { Done returns own memory.now result memory.now }
 {
@@ -148,7 +142,6 @@ fn return_below(memory: &[u16; 4096], own: Core) -> Option<Passed>
 }
 
 // POP
-#[tactic(auto, unfolding(instruction::specs::Instruction::sets, bus::specs::Ports::read_at))]
 fn pop_below(memory: &[u16; 4096], own: Core) -> Option<Passed>
     ensures { Done pops own memory.now result memory.now }
 {
@@ -161,7 +154,6 @@ fn pop_below(memory: &[u16; 4096], own: Core) -> Option<Passed>
 }
 
 // PSHI and POPI
-#[tactic(auto, unfolding(instruction::specs::Instruction::stores))]
 fn push_from_below(memory: &mut [u16; 4096], own: Core) -> Option<Passed>
     ensures { Plain (λ input s. copies input s (difference 12 s.pp 1) (kept 12 s.ac) (difference 12 s.pp 1)) own memory.old result memory.new }
 {
@@ -169,7 +161,6 @@ fn push_from_below(memory: &mut [u16; 4096], own: Core) -> Option<Passed>
     copy_below(memory, Core { pp, ..own }, Address::of(own.ac), pp)
 }
 
-#[tactic(auto, unfolding(instruction::specs::Instruction::stores))]
 fn pop_to_below(memory: &mut [u16; 4096], own: Core) -> Option<Passed>
     ensures { Plain (λ input s. copies input s (sum 12 s.pp 1) s.pp (kept 12 s.ac)) own memory.old result memory.new }
 {
@@ -182,37 +173,21 @@ fn pop_to_below(memory: &mut [u16; 4096], own: Core) -> Option<Passed>
 fn act_below(code: u32, x: Address, memory: &mut [u16; 4096], own: Core) -> Option<Passed>
     ensures { Plain (λ input s. action input code x.0 s) own memory.old result memory.new }
 {
+    let plus = |m| word::add(own.ac, m);
+    let minus = |m| word::subtract(own.ac, m);
     match code {
         0 => gain_below(9, memory, own, x, |m| m),
         1 => write_below(9, memory, own, x, own.ac),
-        2 => gain_below(9, memory, own, x, |m| word::add(own.ac, m)),
-        3 => gain_below(9, memory, own, x, |m| word::subtract(own.ac, m)),
-        4 => gain_below(10, memory, own, own.pp.plus(x), |m| word::add(own.ac, m)),
-        5 => gain_below(
-            9,
-            memory,
-            own,
-            own.pp.plus(x),
-            |m| word::subtract(own.ac, m),
-        ),
-        6 => {
-            if own.ac == 0 {
-                return jump_below(8, own, x);
-            }
-            Some(Passed {
-                core: own,
-                cycles: 8,
-            })
-        }
-        7 => {
-            if 32768 <= own.ac {
-                return jump_below(8, own, x);
-            }
-            Some(Passed {
-                core: own,
-                cycles: 8,
-            })
-        }
+        2 => gain_below(9, memory, own, x, plus),
+        3 => gain_below(9, memory, own, x, minus),
+        4 => gain_below(10, memory, own, own.pp.plus(x), plus),
+        5 => gain_below(9, memory, own, own.pp.plus(x), minus),
+        6 if own.ac == 0 => jump_below(8, own, x),
+        7 if 32768 <= own.ac => jump_below(8, own, x),
+        6 | 7 => Some(Passed {
+            core: own,
+            cycles: 8,
+        }),
         8 => jump_below(7, own, x),
         9 => Some(Passed {
             core: Core { ac: x.0, ..own },
@@ -240,6 +215,7 @@ fn carry_out_below(memory: &mut [u16; 4096], own: Core) -> Option<Passed>
 
 // As many of n instructions, from a stage on, as come before the first that meets a port.
 #[inline(never)]
+#[tactic(auto, using(crate::proofs::BelowPorts::stages))]
 fn pass_below(memory: &mut [u16; 4096], from: Stage, n: u32) -> Stage
     requires within { from.done ≤ n }
     requires spent { from.cycles ≤ 11 * from.done }
@@ -266,6 +242,7 @@ fn pass_below(memory: &mut [u16; 4096], from: Stage, n: u32) -> Stage
 }
 
 // That many single instructions in turn: below the ports as long as none is met, then one through them, and so on.
+#[tactic(auto, using(crate::proofs::BelowPorts::stages))]
 fn carry_out_all(memory: &mut [u16; 4096], input: &[u16], log: &mut [u16], cpu: Cpu, n: u32) -> Ran
     ensures { instructions input.now n (state_of cpu memory.old log.old) ≡ ended_with result memory.new log.new }
 {

@@ -2,14 +2,8 @@
 use mathlib.Core.Path.{◌∙◌}
 use Prim.Native.Nat.{◌≤◌, ◌<◌}
 use native.Mathlib.Omega.{arith}
-use Rattle.interpreter.proofs.BelowPorts.{paid_through, begins, goes_through, stops, ends}
+use Rattle.interpreter.proofs.BelowPorts.{paid_through, goes_through, stops}
 use Rattle.interpreter.proofs.carry_out_all.Goals as goal
-
-pub loop-stage-init : goal.loop-stage-init
-loop-stage-init c = record { within = omega arith; spent = omega arith; same = begins _ _ _ _ _ }
-
-pub returns-then-stage-n : goal.returns-then-stage-n
-returns-then-stage-n c = rw c.ended.ensures (c.loop-stage.invariant.same ∙ c.pass_below-stage.ensures.same _ _ ∙ ends _ _ _ _ _ c.if-stage-n.true)
 
 pub returns-in-Err : goal.returns-in-Err
 returns-in-Err c =
@@ -18,9 +12,6 @@ returns-in-Err c =
 
 pub overflow_add-stage-in-loop-stage : goal.overflow_add-stage-in-loop-stage
 overflow_add-stage-in-loop-stage c = let least : c.in-Ok.acted.cycles ≤ 11 = paid_through _ _ _ _ _ _ _ c.in-Ok.ensures in omega arith
-
-pub loop-stage-smaller : goal.loop-stage-smaller
-loop-stage-smaller c = omega arith
 
 pub loop-stage-preserved : goal.loop-stage-preserved
 loop-stage-preserved c =

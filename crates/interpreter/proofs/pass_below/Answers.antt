@@ -5,10 +5,6 @@ use native.Mathlib.Omega.{arith}
 use Rattle.interpreter.proofs.BelowPorts.{paid_below, goes_below}
 use Rattle.interpreter.proofs.pass_below.Goals as goal
 
-pub overflow_add-cycles : goal.overflow_add-cycles
-overflow_add-cycles c =
-    let least : c.in-Some.passed.cycles ≤ 11 = paid_below _ _ _ _ c.in-Some.ensures.done in omega arith
-
 pub loop-done-preserved : goal.loop-done-preserved
 loop-done-preserved c =
     let least : c.in-Some.passed.cycles ≤ 11 = paid_below _ _ _ _ c.in-Some.ensures.done in
