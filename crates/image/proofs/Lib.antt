@@ -1,6 +1,5 @@
-pub mod Answers
+pub mod Refusals
 pub mod Records
-pub mod Numbers
 pub mod RoundTrip
 pub mod Laws
 pub mod Putting

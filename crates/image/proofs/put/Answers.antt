@@ -1,21 +1,17 @@
--- `put` stores the four bytes one after the other, or none.
-use native.Mathlib.Numerals.{towards_suc}
-use native.Mathlib.Omega.{arith}
-use lib.ListN.{length-set}
+-- `put` stores the record's four bytes, or none.
+use Rattle.std.proofs.Common.{length, ap, ◌∙◌, arith}
 use borrow.Author.Tests.{ne_eqb}
+use lib.Seq.{sets}
 use Rattle.image.specs.Records.{bytes}
+use Rattle.image.proofs.Putting.{part_stored}
 use Rattle.image.proofs.put.Goals as goal
-
-pub bounds-room-at-2 : goal.bounds-room-at-2
-bounds-room-at-2 c = simp length-set (omega arith)
-
-pub bounds-room-at-3 : goal.bounds-room-at-3
-bounds-room-at-3 c = simp length-set (omega arith)
-
-pub bounds-room-at-4 : goal.bounds-room-at-4
-bounds-room-at-4 c = simp length-set (omega arith)
 
 pub returns : goal.returns
 unfolding bytes
-returns c = let some = ne_eqb c.args.value 0 (λ e. omega arith) in
-    record { stored = simp (some, c.to_bytes-front.ensures, c.to_bytes-back.ensures, towards_suc); behind = rw some }
+returns c =
+    let some = ne_eqb c.args.value 0 (λ e. omega arith) in
+    let four = c.copy_from_slice.ensures.after ∙ c.from.ensures in
+    record {
+      stored = rw some (part_stored c.args.room.now _ c.args.at c.requires (ap length four) ∙ ap (sets c.args.room.now c.args.at) four);
+      behind = rw some;
+    }
