@@ -149,3 +149,5 @@ log_kept input n s h =
 -- No run changes the words under the ports, or the length of memory.
 pub ports_kept : (input : List ℕ) (n : ℕ) (s : State) → Spared s.memory (instructions input n s).state.memory
 ports_kept input n s = rw (ap (λ (l : Left). l.memory) (run_leaves input n s)) (spared (writes input n s) (found_in s))
+
+pub ruleset begun = (lets_run, refused, wrong_size)

@@ -284,6 +284,7 @@ fn check(memory: &[u16; 4096], input: &[u16], log: &[u16], cpu: Cpu) -> Result<(
 }
 
 // A run of n instructions, refusals 1 to 3 first, which leave all as found.
+#[tactic(auto, using(crate::proofs::Laws::begun))]
 pub fn run(
     memory: &mut [u16],
     input: &[u16],
