@@ -1,18 +1,15 @@
 -- Laws of a run's stages: how one begins, goes on by an instruction, and ends.
-use Prim.Native.Nat.{ℕ, ◌+◌, ◌-◌, ◌*◌, ◌≤◌, ◌<◌}
-use mathlib.Core.Path.{◌≡◌, refl, sym, ◌∙◌}
-use mathlib.Core.Bool.{false}
+use Prim.Native.Nat.{ℕ, ◌+◌, ◌≤◌, ◌<◌}
+use mathlib.Core.Path.{◌≡◌, refl}
 use mathlib.Core.List.{List, []}
 use native.Mathlib.Nat.{sub-zero}
 use native.Mathlib.Omega.{arith}
 use Rattle.std.specs.Prelude.{Some, None, Ok, Err}
-use Rattle.turns.specs.Turns.{Turn, plus}
 use Rattle.turns.proofs.Laws as T
 use Rattle.turns.proofs.Laws.{plus_none}
 use Rattle.bus.specs.declared.Stop.{Stop}
 use Rattle.bus.specs.declared.Stop.TheVariants.{LogFull}
-use Rattle.bus.specs.Stops.{number}
-use Rattle.instruction.specs.Instruction.{State, state_in, state_of, instruct}
+use Rattle.instruction.specs.Instruction.{state_in, state_of, instruct}
 use Rattle.instruction.specs.Code.Handed.{act_by}
 use Rattle.instruction.specs.declared.Core.{Core}
 use Rattle.instruction.specs.declared.Cpu.{Cpu}

@@ -1,20 +1,17 @@
 -- Laws of the interpreter's runs: no second answer; what a run does to memory and log.
-use Prim.Native.Nat.{ℕ, ◌+◌, ◌-◌, ◌≤◌, ◌<◌}
+use Prim.Native.Nat.{ℕ, ◌-◌, ◌≤◌}
 use mathlib.Core.Path.{◌≡◌, refl, sym, ◌∙◌, ap}
-use mathlib.Core.Bool.{Bool, true, false, cond, not}
 use mathlib.Core.List.{List, [], ◌∷◌, ◌++◌}
-use native.Mathlib.Nat.{add-zero}
 use native.Mathlib.Omega.{arith}
 use lib.ListN.{length, get_or, take, drop, length-append}
 use lib.Seq.{take_all}
-use lib.Dec.{eqb}
-use borrow.Author.Tests.{eqb-true, ne_eqb}
+use borrow.Author.Tests.{ne_eqb}
 use Rattle.bus.specs.Ports.{Left}
 use Rattle.bus.specs.Log.{Sent, after, to_log, room, Took}
 use Rattle.bus.specs.Stops.{number_of}
 use Rattle.bus.proofs.Laws as bus
 use Rattle.bus.proofs.Laws.{number_only, number_apart}
-use Rattle.turns.specs.Turns.{Turn, Turned, plus, turns, checked}
+use Rattle.turns.specs.Turns.{Turned, checked}
 use Rattle.turns.proofs.Laws as T
 use Rattle.instruction.specs.Instruction.{State, state_of, instruct}
 use Rattle.std.specs.Prelude.{Option, Result, Ok, Err}

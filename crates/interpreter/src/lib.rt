@@ -2,12 +2,12 @@
 #![tactic(auto, unfolding(instruction::specs::Instruction::sets, instruction::specs::Instruction::stores, instruction::specs::Instruction::gains, instruction::specs::Instruction::branches, bus::specs::Ports::read_at, bus::specs::Ports::write_at, bus::specs::Ports::goes, bus::specs::Ports::sent))]
 
 ghost use Rattle.std.specs.Prelude.{◌≡◌, ℕ, List, ◌*◌, ◌≤◌, true, length};
-ghost use Rattle.word.specs.Number.{kept, sum, difference};
+ghost use Rattle.word.specs.Number.{kept};
 ghost use Rattle.word.specs.Answer.{answered};
 ghost use Rattle.bus.specs.Refusals.{number};
-ghost use Rattle.instruction.specs.Instruction.{gains, branches, stores, action, instruct, state_of};
+ghost use Rattle.instruction.specs.Instruction.{at, sets, gains, branches, stores, below, above, named, action, instruct, state_of};
 ghost use Rattle.interpreter.specs.Run.{refusal, instructions, runs, ended_with, ended_by};
-ghost use Rattle.interpreter.specs.Code.BelowPorts.{Done, Plain, Onward, held_below, pushes, copies, returns, pops};
+ghost use Rattle.interpreter.specs.Code.BelowPorts.{Done, Plain, Onward, held_below, popped};
 
 use bus::{Refusal, Stop};
 use instruction::{Core, Cpu};
@@ -113,59 +113,57 @@ fn write_below(
     Some(Passed { core: own, cycles })
 }
 
-// A word goes from one address to another.
-fn copy_below(memory: &mut [u16; 4096], own: Core, from: Address, to: Address) -> Option<Passed>
-    ensures { Plain (λ input s. copies input s s.pp from.0 to.0) own memory.old result memory.new }
-{
-    let word = word_below(memory, from)?;
-    write_below(11, memory, own, to, word)
-}
-
-// CALL and PUSH: a word is pushed.
-fn push_below(memory: &mut [u16; 4096], own: Core, word: u16) -> Option<Passed>
-    ensures { Plain (λ input s. pushes s s.cp word) own memory.old result memory.new }
+// PP falls by 1, and a word is written where it then points.
+fn push_below(cycles: u64, memory: &mut [u16; 4096], own: Core, word: u16) -> Option<Passed>
+    ensures { Plain (λ input s. stores cycles s s.cp (below s) s.place (below s) word) own memory.old result memory.new }
 {
     let pp = own.pp.minus(Address(1));
-    write_below(10, memory, Core { pp, ..own }, pp, word)
+    write_below(cycles, memory, Core { pp, ..own }, pp, word)
 }
 
-// RETN
-fn return_below(memory: &[u16; 4096], own: Core) -> Option<Passed>
-    ensures { Done returns own memory.now result memory.now }
+// What is popped, and the registers with PP one higher.
+fn popped_below(memory: &[u16; 4096], own: Core) -> Option<(u16, Core)>
+    ensures { result ≡ popped memory.now own }
 {
-    let cp = Address::of(word_below(memory, own.pp)?);
+    let word = word_below(memory, own.pp)?;
     let pp = own.pp.plus(Address(1));
+    Some((word, Core { pp, ..own }))
+}
+
+// PSHI, RETN, POP and POPI, in the order of the table.
+fn push_named_below(memory: &mut [u16; 4096], own: Core) -> Option<Passed>
+    ensures { Plain (λ input s. stores 11 s s.cp (below s) (at input s (named s)).place (below s) (at input s (named s)).word) own memory.old result memory.new }
+{
+    let word = word_below(memory, Address::of(own.ac))?;
+    push_below(11, memory, own, word)
+}
+
+fn go_back_below(memory: &[u16; 4096], own: Core) -> Option<Passed>
+    ensures { Done (λ input s. sets 9 s (kept 12 (at input s s.pp).word) (above s) s.ac (at input s s.pp).place) own memory.now result memory.now }
+{
+    let (word, own) = popped_below(memory, own)?;
+    let cp = Address::of(word);
     Some(Passed {
-        core: Core { cp, pp, ..own },
+        core: Core { cp, ..own },
         cycles: 9,
     })
 }
 
-// POP
 fn pop_below(memory: &[u16; 4096], own: Core) -> Option<Passed>
-    ensures { Done pops own memory.now result memory.now }
+    ensures { Done (λ input s. sets 10 s s.cp (above s) (at input s s.pp).word (at input s s.pp).place) own memory.now result memory.now }
 {
-    let ac = word_below(memory, own.pp)?;
-    let pp = own.pp.plus(Address(1));
+    let (ac, own) = popped_below(memory, own)?;
     Some(Passed {
-        core: Core { ac, pp, ..own },
+        core: Core { ac, ..own },
         cycles: 10,
     })
 }
 
-// PSHI and POPI
-fn push_from_below(memory: &mut [u16; 4096], own: Core) -> Option<Passed>
-    ensures { Plain (λ input s. copies input s (difference 12 s.pp 1) (kept 12 s.ac) (difference 12 s.pp 1)) own memory.old result memory.new }
+fn pop_named_below(memory: &mut [u16; 4096], own: Core) -> Option<Passed>
+    ensures { Plain (λ input s. stores 11 s s.cp (above s) (at input s s.pp).place (named s) (at input s s.pp).word) own memory.old result memory.new }
 {
-    let pp = own.pp.minus(Address(1));
-    copy_below(memory, Core { pp, ..own }, Address::of(own.ac), pp)
-}
-
-fn pop_to_below(memory: &mut [u16; 4096], own: Core) -> Option<Passed>
-    ensures { Plain (λ input s. copies input s (sum 12 s.pp 1) s.pp (kept 12 s.ac)) own memory.old result memory.new }
-{
-    let pp = own.pp.plus(Address(1));
-    copy_below(memory, Core { pp, ..own }, own.pp, Address::of(own.ac))
+    let (word, own) = popped_below(memory, own)?;
+    write_below(11, memory, own, Address::of(own.ac), word)
 }
 
 // The table, in its order, below the ports. A jump's test stands here, since a choice of values would tie CP to AC.
@@ -193,12 +191,12 @@ fn act_below(code: u32, x: Address, memory: &mut [u16; 4096], own: Core) -> Opti
             core: Core { ac: x.0, ..own },
             cycles: 7,
         }),
-        10 => push_below(memory, Core { cp: x, ..own }, own.cp.0),
-        11 => return_below(memory, own),
-        12 => push_below(memory, own, own.ac),
-        13 => push_from_below(memory, own),
+        10 => push_below(10, memory, Core { cp: x, ..own }, own.cp.0),
+        11 => go_back_below(memory, own),
+        12 => push_below(10, memory, own, own.ac),
+        13 => push_named_below(memory, own),
         14 => pop_below(memory, own),
-        _ => pop_to_below(memory, own),
+        _ => pop_named_below(memory, own),
     }
 }
 

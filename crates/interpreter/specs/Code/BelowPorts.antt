@@ -2,8 +2,8 @@
 use Rattle.std.specs.Prelude.{ℕ, ◌-◌, ◌*◌, ◌≤◌, ◌≡◌, List, get_or, cond, ltb, Option, Some, None}
 use Rattle.turns.specs.Turns.{Turn, Turned, plus}
 use Rattle.bus.specs.Stops.{goes_on}
-use Rattle.word.specs.Number.{kept}
-use Rattle.instruction.specs.Instruction.{State, at, below, above, sets, stores, state_in, state_of}
+use Rattle.word.specs.Number.{sum}
+use Rattle.instruction.specs.Instruction.{State, state_in, state_of}
 use Rattle.instruction.specs.declared.Core.{Core}
 use Rattle.interpreter.specs.Run.{instructions}
 use Rattle.interpreter.specs.declared.Passed.{Passed}
@@ -12,6 +12,10 @@ use Rattle.interpreter.specs.declared.Stage.{Stage}
 -- Memory's word at an address below the ports.
 abbrev pub held_below : List ℕ → ℕ → Option ℕ
 held_below memory address = cond (ltb address 4092) (Some (get_or memory address 0)) None
+
+-- What is popped there, and the registers with PP one higher.
+abbrev pub popped : List ℕ → Core → Option (ℕ × Core)
+popped memory own = cond (ltb own.pp.0 4092) (Some (get_or memory own.pp.0 0, record own { pp = record { 0 = sum 12 own.pp.0 1 } })) None
 
 -- What an action comes to where it is done; of one that met a port nothing is said.
 abbrev pub passed : Option Passed → Turn State → ℕ → List ℕ → List ℕ → Turn State
@@ -28,19 +32,6 @@ Done acts own memory r later =
 pub record Plain (acts : List ℕ → State → Turn State) (own : Core) (memory : List ℕ) (r : Option Passed) (later : List ℕ) : Type 0 where
   pub done : Done acts own memory r later
   pub undone : r ≡ None → later ≡ memory
-
--- The table's lines that push a word, that copy one, and RETN and POP.
-abbrev pub pushes : State → ℕ → ℕ → Turn State
-pushes s cp word = stores 10 s cp (below s) s.place (below s) word
-
-abbrev pub copies : List ℕ → State → ℕ → ℕ → ℕ → Turn State
-copies input s pp from to = stores 11 s s.cp pp (at input s from).place to (at input s from).word
-
-abbrev pub returns : List ℕ → State → Turn State
-returns input s = sets 9 s (kept 12 (at input s s.pp).word) (above s) s.ac (at input s s.pp).place
-
-abbrev pub pops : List ℕ → State → Turn State
-pops input s = sets 10 s s.cp (above s) (at input s s.pp).word (at input s s.pp).place
 
 -- What a run of n instructions comes to from a stage of it on.
 abbrev pub rest : ℕ → Stage → List ℕ → List ℕ → List ℕ → Turned State
