@@ -69,8 +69,10 @@ pub extern "C" fn facetgrove_interpreter_run(
 pub extern "C" fn facetgrove_micro_assemble(text: &[u8], store: &mut [u32]) -> u32
     ensures { assembled text.now store.old ≡ record { answer = result; store = store.new } }
 {
-    let answer = microassembler::assemble(text, store);
-    answer.number()
+    match microassembler::assemble(text, store) {
+        Ok(()) => 0,
+        Err(refusal) => u32::from(refusal),
+    }
 }
 
 // A control store's listing, at the start of the room.
