@@ -43,7 +43,7 @@ parts_from q [] = []
 parts_from q (p ∷ []) = last_from q p
 parts_from q (p ∷ r ∷ ps) = rest q p ∷ parts (r ∷ ps)
 
-divided_some : (ts : List Token) → (p : List Token) × (ps : List (List Token)) × (divided ts ≡ p ∷ ps)
+pub divided_some : (ts : List Token) → (p : List Token) × (ps : List (List Token)) × (divided ts ≡ p ∷ ps)
 unfolding divided cut
 divided_some [] = ([], [], refl)
 divided_some (t ∷ ts) = go (divided_some ts)

@@ -31,7 +31,7 @@ begun : (c : ℕ) (s : List ℕ) → (c ≡ 10 → ⊥) → (c ≡ code " " → 
 unfolding before started_by
 begun c s n b = rw (ne_eqb c 10 n, tokens_first c (before 10 s), ne_eqb c (code " ") b) refl
 
-every_more : (p : ℕ → Bool) (t : List ℕ) (c : ℕ) → every p (t ++ c ∷ []) ≡ (every p t && p c)
+pub every_more : (p : ℕ → Bool) (t : List ℕ) (c : ℕ) → every p (t ++ c ∷ []) ≡ (every p t && p c)
 unfolding every
 every_more p [] c = and-true (p c)
 every_more p (x ∷ t) c = rw (every_more p t c) (sym (and_assoc (p x) (every p t) (p c)))
