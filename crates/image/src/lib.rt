@@ -1,7 +1,7 @@
 // Memory images: records of an address and a value, read into a lent memory and written from one.
 #![tactic(auto)]
 
-ghost use Rattle.std.specs.Prelude.{◌≡◌, ◌+◌, ◌≤◌, ◌*◌, [], ◌∷◌, length, map, replicate};
+ghost use Rattle.std.specs.Prelude.{◌≡◌, false, cond, eqb, ltb, ◌+◌, ◌≤◌, ◌*◌, [], ◌∷◌, length, map, replicate};
 ghost use Rattle.std.specs.Result.{result_unwrap_or};
 ghost use Rattle.image.specs.Refusals.{number};
 ghost use Rattle.word.specs.Answer.{answered};
@@ -79,35 +79,45 @@ impl From<Record> for [u8; 4] {
 }
 
 impl Record {
-    // Its own fault, where no address below `least` may come.
+    // Its own fault, wherever it stands.
     #[tactic(auto, unfolding(crate::specs::Records::fault))]
-    fn judge(self, least: u32) -> Result<(), Refusal>
-        ensures { answered number result ≡ fault least self }
+    fn judge(self) -> Result<(), Refusal>
+        ensures { answered number result ≡ fault 0 self }
     {
         if RECORDED <= self.address.0 {
             return Err(Refusal::AddressTooHigh);
-        }
-        if u32::from(self.address.0) < least {
-            return Err(Refusal::AddressNotAbove);
         }
         if self.value == 0 {
             return Err(Refusal::ValueZero);
         }
         Ok(())
     }
+
+    // Whether it has a value and the next one's address is above its own.
+    fn goes_before(self, next: Record) -> bool
+        ensures { result ≡ cond (eqb self.value 0) false (ltb self.address.0 next.address.0) }
+    {
+        self.value != 0 && self.address < next.address
+    }
 }
 
-// The first fault of records in turn.
+// The first fault of records in turn. While records follow, only the last one's address can be too high.
 fn examine(records: &[[u8; 4]]) -> Result<(), Refusal>
     ensures { answered number result ≡ first_fault 0 (map record_in records.now) }
 {
-    let mut least: u32 = 0;
-    for &four in records {
+    let Some((first, rest)) = records.split_first() else {
+        return Ok(());
+    };
+    let mut last = Record::from(*first);
+    for &four in rest {
         let next = Record::from(four);
-        next.judge(least)?;
-        least = u32::from(next.address.0) + 1;
+        if !last.goes_before(next) {
+            last.judge()?;
+            return Err(Refusal::AddressNotAbove);
+        }
+        last = next;
     }
-    Ok(())
+    last.judge()
 }
 
 // Lays records that have no fault over a memory of zeros.
@@ -140,7 +150,7 @@ pub fn read(image: &[u8], memory: &mut [u16]) -> Result<(), Refusal>
 }
 
 // Puts a word's record into the room, and none for a word that is 0. Gives where it ends.
-#[tactic(auto, using(text::proofs::Laid::nothing), unfolding(crate::specs::Records::bytes))]
+#[tactic(auto, using(text::proofs::Laid::nothing, crate::proofs::Putting::record_put), unfolding(crate::specs::Records::bytes))]
 fn put(room: &mut [u8], at: usize, address: u16, value: u16) -> usize
     requires { at + 4 ≤ length room.old }
     ensures { Wrote room.old at (bytes (record_of address value)) room.new result }

@@ -1,7 +1,7 @@
--- `examine`: the records to come have behind those before them the fault that all have.
-use Rattle.std.proofs.Common.{◌≡◌, map, drop}
+-- `examine`: the record that was read last and those to come have by themselves the fault that all have.
+use Rattle.std.proofs.Common.{◌≡◌, ◌∷◌, map, drop}
 use Rattle.image.specs.Records.{first_fault, record_in}
 use Rattle.image.proofs.examine.Given as goal
 
 abbrev pub invariant-loop-four : goal.invariant-loop-four
-invariant-loop-four l = first_fault l.least (map record_in (drop l.four-index l.records)) ≡ first_fault 0 (map record_in l.records)
+invariant-loop-four l = first_fault 0 (l.last ∷ map record_in (drop l.four-index l.rest)) ≡ first_fault 0 (map record_in l.fn.records)
