@@ -50,7 +50,7 @@ pressed store input memory log m s p e =
           done = cond (eqb (passed_by m p memory log).said.number 0) 1 0;
           said = (passed_by m p memory log).said;
         }
-          ≡ ended_by m (counted p) memory log
+        ≡ ended_by m (counted p) memory log
     with_count (Ok pressed) = refl
     with_count (Err (Lent WrongSize)) = refl
     with_count (Err (Lent PastEnd)) = refl

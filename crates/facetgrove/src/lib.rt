@@ -9,6 +9,7 @@ ghost use Rattle.facetgrove.specs.Runs.{engine_called, interpreter_called};
 ghost use Rattle.facetgrove.specs.Rooms.{list_called, write_called};
 
 // A run of the engine.
+#[tactic(auto, unfolding(crate::specs::Runs::engine_called))]
 #[unsafe(no_mangle)]
 pub extern "C" fn facetgrove_engine_run(
     store: &[u32],
@@ -47,6 +48,7 @@ pub extern "C" fn facetgrove_press(
 }
 
 // A run of the interpreter.
+#[tactic(auto, unfolding(crate::specs::Runs::interpreter_called))]
 #[unsafe(no_mangle)]
 pub extern "C" fn facetgrove_interpreter_run(
     memory: &mut [u16],
@@ -73,6 +75,7 @@ pub extern "C" fn facetgrove_micro_assemble(text: &[u8], store: &mut [u32]) -> u
 }
 
 // A control store's listing, at the start of the room.
+#[tactic(auto, unfolding(crate::specs::Rooms::list_called))]
 #[unsafe(no_mangle)]
 pub extern "C" fn facetgrove_micro_list(
     store: &[u32],
@@ -98,6 +101,7 @@ pub extern "C" fn facetgrove_image_read(image: &[u8], memory: &mut [u16]) -> u32
 }
 
 // A memory's image, at the start of the room.
+#[tactic(auto, unfolding(crate::specs::Rooms::write_called))]
 #[unsafe(no_mangle)]
 pub extern "C" fn facetgrove_image_write(
     memory: &[u16],
