@@ -4,8 +4,9 @@
 ghost use Rattle.std.specs.Prelude.{◌≡◌, ◌<◌};
 ghost use Rattle.cycle.specs.Cycle.{stored, next_line, cycle_of};
 ghost use Rattle.cycle.specs.Code.Standing.{standing, stepped, beginning, began};
+ghost use Rattle.bus.specs.Code.Lent.{Stays};
 
-use bus::Stop;
+use bus::{Bus, Stop};
 use datapath::{Half, Moving};
 use microword::Fields;
 use word::{Address, Line};
@@ -75,11 +76,10 @@ pub fn step(
     word: u32,
     before: Standing,
     registers: &mut [u16; 8],
-    memory: &mut [u16],
-    input: &[u16],
-    log: &mut [u16],
+    bus: &mut Bus,
 ) -> Result<Standing, Stop>
-    ensures { cycle_of word input.now (standing before registers.old memory.old log.old) ≡ stepped before result registers.new memory.new log.new }
+    ensures stays { Stays bus.old bus.new }
+    ensures steps { cycle_of word bus.old.input.now (standing before registers.old bus.old.memory.now bus.old.log.now) ≡ stepped before result registers.new bus.new.memory.now bus.new.log.now }
 {
     let first = begin(word, before.line, registers);
     let m = first.m;
@@ -98,7 +98,7 @@ pub fn step(
         count: before.count,
     };
     let rem = Address(registers[REM]);
-    match datapath::transfer(m.rd == 1, m.wr == 1, rem, moving, memory, input, log) {
+    match datapath::transfer(m.rd == 1, m.wr == 1, rem, moving, bus) {
         Ok(moved) => {
             // Only a cycle with RD can change RDM by its transfer: the others need not touch it.
             if m.rd == 1 {

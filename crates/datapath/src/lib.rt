@@ -4,8 +4,9 @@
 ghost use Rattle.std.specs.Prelude.{◌≡◌};
 ghost use Rattle.datapath.specs.Result.{alu, negative, is_zero, jumps, keeps};
 ghost use Rattle.datapath.specs.Transfer.{transferred, moved};
+ghost use Rattle.bus.specs.Code.Lent.{Stays};
 
-use bus::{Ports, Stop};
+use bus::{Bus, Stop};
 use word::Address;
 
 // What a cycle leaves half done.
@@ -22,6 +23,7 @@ pub struct UnknownHalf(pub usize);
 
 impl From<Half> for usize {
     ghost use Rattle.datapath.specs.Halves.{half_number};
+
     ghost from_gives = { λ half n. n ≡ half_number half };
 
     fn from(half: Half) -> usize {
@@ -37,6 +39,7 @@ impl TryFrom<usize> for Half {
     type Error = UnknownHalf;
 
     ghost use Rattle.datapath.specs.Halves.{Numbers};
+
     ghost try_from_gives = { Numbers };
 
     fn try_from(number: usize) -> Result<Self, UnknownHalf> {
@@ -107,21 +110,14 @@ pub fn transfer(
     wr: bool,
     rem: Address,
     before: Moving,
-    memory: &mut [u16],
-    input: &[u16],
-    log: &mut [u16],
+    bus: &mut Bus,
 ) -> Result<Moving, Stop>
-    ensures { transferred rd wr input.now before.half (record { rem = rem.0; rdm = before.rdm; place = before.place; count = before.count; memory = memory.old; log = log.old }) ≡ moved before result memory.new log.new }
+    ensures stays { Stays bus.old bus.new }
+    ensures moves { transferred rd wr bus.old.input.now before.half (record { rem = rem.0; rdm = before.rdm; place = before.place; count = before.count; memory = bus.old.memory.now; log = bus.old.log.now }) ≡ moved before result bus.new.memory.now bus.new.log.now }
 {
     match (rd, wr, before.half) {
         (true, _, Half::Read) => {
-            let room = before.count < log.len();
-            let got = Ports {
-                memory,
-                input,
-                room,
-            }
-            .read(before.place, rem);
+            let got = bus.read(before.place, before.count, rem);
             Ok(Moving {
                 rdm: got.word,
                 half: Half::Nothing,
@@ -134,7 +130,7 @@ pub fn transfer(
             ..before
         }),
         (false, true, Half::Write) => {
-            let count = bus::write(memory, log, before.count, rem, before.rdm)?;
+            let count = bus.write(before.count, rem, before.rdm)?;
             Ok(Moving {
                 half: Half::Nothing,
                 count,

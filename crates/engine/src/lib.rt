@@ -3,8 +3,9 @@
 
 ghost use Rattle.std.specs.Prelude.{◌≡◌};
 ghost use Rattle.engine.specs.Run.{number, named_line, saying, refusal, cycles, ended, runs, state_of, ended_by};
+ghost use Rattle.bus.specs.Code.Lent.{Stays};
 
-use bus::Stop;
+use bus::{Bus, Stop};
 use cycle::Standing;
 use datapath::Half;
 use word::Line;
@@ -118,15 +119,9 @@ fn machine_of(at: Standing, registers: [u16; 8]) -> Machine
 }
 
 // n cycles in turn. What a cycle changes stands in variables of its own, which the compiler keeps in registers.
-fn repeat(
-    store: &[u32],
-    memory: &mut [u16],
-    input: &[u16],
-    log: &mut [u16],
-    machine: Machine,
-    n: u32,
-) -> Ran
-    ensures { ended 0 (cycles store.now input.now n (state_of machine memory.old log.old)) ≡ ended_by machine (Ok result) memory.new log.new }
+fn repeat(store: &[u32], bus: &mut Bus, machine: Machine, n: u32) -> Ran
+    ensures stays { Stays bus.old bus.new }
+    ensures repeats { ended 0 (cycles store.now bus.old.input.now n (state_of machine bus.old.memory.now bus.old.log.now)) ≡ ended_by machine (Ok result) bus.new.memory.now bus.new.log.now }
 {
     let mut registers = machine.registers;
     let mut at = Standing {
@@ -137,7 +132,7 @@ fn repeat(
     };
     for done in 0..n {
         let word = store::word_at(store, at.line);
-        match cycle::step(word, at, &mut registers, memory, input, log) {
+        match cycle::step(word, at, &mut registers, bus) {
             Ok(next) => at = next,
             Err(stop) => {
                 return Ran {
@@ -167,5 +162,6 @@ pub fn run(
     ensures { runs store.now input.now n (state_of machine memory.old log.old) ≡ ended_by machine result memory.new log.new }
 {
     check(store, memory, input, log, machine)?;
-    Ok(repeat(store, memory, input, log, machine, n))
+    let mut bus = Bus { memory, input, log };
+    Ok(repeat(store, &mut bus, machine, n))
 }

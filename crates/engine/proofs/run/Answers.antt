@@ -1,5 +1,6 @@
 -- `run`: where the check refuses nothing the cycles run; what it refuses is handed on with everything as found.
 use Rattle.std.proofs.lemmas.Result.{err_from_is_err_and}
+use Rattle.std.proofs.Common.{rules}
 use Rattle.engine.proofs.Laws.{lets_run, refuses}
 use Rattle.engine.proofs.run.Goals as goal
 
@@ -9,4 +10,4 @@ returns-in_err-check c =
     rw (p.1, p.2) (refuses _ _ _ _ _ (rw c.in_err-check.was at c.check.ensures))
 
 pub returns : goal.returns
-returns c = lets_run _ _ _ _ (rw c.in_ok-check.was at c.check.ensures) c.repeat.ensures
+returns c = lets_run _ _ _ _ (rw c.in_ok-check.was at c.check.ensures) (search rules)
