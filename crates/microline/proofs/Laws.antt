@@ -39,27 +39,27 @@ spelt_at pieces i none h = rw (drop-cons pieces i none h)
 pub spelt_end : (pieces : List (Bor (List ℕ))) (i : ℕ) → length pieces ≤ i → spelt (drop i pieces) ≡ []
 spelt_end pieces i h = rw (drop_of_length-le pieces h)
 
-abbrev piece_at : List (Bor (List ℕ)) → ℕ → List ℕ
-piece_at pieces i = (get_or pieces i (record { ref_ptr = (0, 0); now = [] })).now
+abbrev no_piece : Bor (List ℕ)
+no_piece = record { ref_ptr = (0, 0); now = [] }
 
-pub four_spelt : (p : List (Bor (List ℕ))) (rest : List ℕ) → length p ≡ 4
-    → piece_at p 0 ++ (piece_at p 1 ++ (piece_at p 2 ++ (piece_at p 3 ++ rest))) ≡ spelt p ++ rest
-four_spelt p rest h =
-    rw (spelt_at p 0 (record { ref_ptr = (0, 0); now = [] }) (omega arith), spelt_at p 1 (record { ref_ptr = (0, 0); now = [] }) (omega arith), spelt_at p 2 (record { ref_ptr = (0, 0); now = [] }) (omega arith), spelt_at p 3 (record { ref_ptr = (0, 0); now = [] }) (omega arith), spelt_end p 4 (omega arith))
+abbrev piece_at : List (Bor (List ℕ)) → ℕ → List ℕ
+piece_at p i = (get_or p i no_piece).now
+
+pub two_spelt : (p : List (Bor (List ℕ))) (rest : List ℕ) → length p ≡ 2 → piece_at p 0 ++ (piece_at p 1 ++ rest) ≡ spelt p ++ rest
+two_spelt p rest h =
+    rw (spelt_at p 0 no_piece (omega arith), spelt_at p 1 no_piece (omega arith), spelt_end p 2 (omega arith))
     (simp (append_assoc, append-nil))
 
-pub seven_spelt : (p : List (Bor (List ℕ))) (rest : List ℕ) → length p ≡ 7
-    → piece_at p 0 ++ (piece_at p 1 ++ (piece_at p 2 ++ (piece_at p 3 ++ (piece_at p 4 ++ (piece_at p 5 ++ (piece_at p 6 ++ rest)))))) ≡ spelt p ++ rest
-seven_spelt p rest h =
+pub five_spelt : (p : List (Bor (List ℕ))) (rest : List ℕ) → length p ≡ 5
+    → piece_at p 0 ++ (piece_at p 1 ++ (piece_at p 2 ++ (piece_at p 3 ++ (piece_at p 4 ++ rest)))) ≡ spelt p ++ rest
+five_spelt p rest h =
     rw (
-      spelt_at p 0 (record { ref_ptr = (0, 0); now = [] }) (omega arith),
-      spelt_at p 1 (record { ref_ptr = (0, 0); now = [] }) (omega arith),
-      spelt_at p 2 (record { ref_ptr = (0, 0); now = [] }) (omega arith),
-      spelt_at p 3 (record { ref_ptr = (0, 0); now = [] }) (omega arith),
-      spelt_at p 4 (record { ref_ptr = (0, 0); now = [] }) (omega arith),
-      spelt_at p 5 (record { ref_ptr = (0, 0); now = [] }) (omega arith),
-      spelt_at p 6 (record { ref_ptr = (0, 0); now = [] }) (omega arith),
-      spelt_end p 7 (omega arith),
+      spelt_at p 0 no_piece (omega arith),
+      spelt_at p 1 no_piece (omega arith),
+      spelt_at p 2 no_piece (omega arith),
+      spelt_at p 3 no_piece (omega arith),
+      spelt_at p 4 no_piece (omega arith),
+      spelt_end p 5 (omega arith),
     )
     (simp (append_assoc, append-nil))
 

@@ -1,7 +1,7 @@
 // One line of a listing: its number and the parts of a control word, put together from pieces.
 #![tactic(auto)]
 
-ghost use Rattle.std.specs.Prelude.{◌≡◌, ℕ, [], ◌∷◌, ◌++◌, ◌+◌, ◌*◌, ◌/◌, ◌%◌, ◌<◌, ◌≤◌, length, get_or};
+ghost use Rattle.std.specs.Prelude.{◌≡◌, ℕ, [], ◌∷◌, ◌++◌, ◌+◌, ◌*◌, ◌/◌, ◌%◌, ◌<◌, ◌≤◌, length, get_or, take, drop};
 ghost use Rattle.microtext.specs.Listing.{line, register_name, formula, destination, operation_part, transfer_part, jump_texts, jump_part};
 ghost use Rattle.text.specs.Laid.{Wrote};
 ghost use Rattle.text.specs.Decimal.{short_decimal};
@@ -38,14 +38,24 @@ fn register<'a>(r: u32) -> &'a [u8]
     }
 }
 
-// Where the operation stores; `alu` stores nothing.
+// Where the operation stores, with the space before and the sign behind; `alu` stores nothing.
 fn destination<'a>(m: Fields) -> &'a [u8]
-    ensures { result.now ≡ destination m }
+    ensures { result.now ≡ (32 ∷ []) ++ destination m ++ (58 ∷ 61 ∷ []) }
 {
     if m.hs == 0 {
-        return b"alu";
+        return b" alu:=";
     }
-    register(m.s)
+    match m.s {
+        0 => b" cp:=",
+        1 => b" ac:=",
+        2 => b" pp:=",
+        3 => b" ri:=",
+        4 => b" rt:=",
+        5 => b" masc:=",
+        6 => b" rem:=",
+        7 => b" rdm:=",
+        _ => b" :=",
+    }
 }
 
 // What F computes of the registers a and b.
@@ -70,14 +80,14 @@ fn formula<'a>(m: Fields) -> [&'a [u8]; 3]
 
 // The operation; none where nothing asks for its result.
 #[tactic(auto, unfolding(microtext::specs::Listing::operation, microword::specs::Microword::idle))]
-fn operation<'a>(m: Fields) -> [&'a [u8]; 7]
+fn operation<'a>(m: Fields) -> [&'a [u8]; 5]
     ensures { spelt result ≡ operation_part m }
 {
     if m.hs == 0 && matches!(m.sq, 0 | 3) {
-        return [b"", b"", b"", b"", b"", b"", b""];
+        return [b"", b"", b"", b"", b""];
     }
     let [x, y, z] = formula(m);
-    [b" ", destination(m), b":=", x, y, z, b";"]
+    [destination(m), x, y, z, b";"]
 }
 
 // `rd` or `wr`, where the word has one.
@@ -93,44 +103,44 @@ fn transfer<'a>(m: Fields) -> &'a [u8]
     b""
 }
 
-// The words of a jump before its target, by SQ.
+// The words of a jump by SQ, with the space before.
 #[tactic(auto, unfolding(microtext::specs::Listing::jump_texts))]
 fn jump_words<'a>(sq: u32) -> &'a [u8]
-    ensures { result.now ≡ get_or jump_texts sq [] }
+    ensures { result.now ≡ 32 ∷ get_or jump_texts sq [] }
 {
     match sq {
-        1 => b"if n then goto ",
-        2 => b"if z then goto ",
-        3 => b"goto ",
-        _ => b"",
+        1 => b" if n then goto ",
+        2 => b" if z then goto ",
+        3 => b" goto ",
+        _ => b" ",
     }
 }
 
-// The jump to a target in decimal; none where SQ is 0.
+// The jump, to a target with its semicolon; none where SQ is 0.
 #[tactic(auto, unfolding(microtext::specs::Listing::jump))]
-fn jump<'a>(m: Fields, target: &'a [u8]) -> [&'a [u8]; 4]
-    requires { target.now ≡ short_decimal m.end }
+fn jump<'a>(m: Fields, target: &'a [u8]) -> [&'a [u8]; 2]
+    requires { target.now ≡ short_decimal m.end ++ 59 ∷ [] }
     ensures { spelt result ≡ jump_part m }
 {
     if m.sq == 0 {
-        return [b"", b"", b"", b""];
+        return [b"", b""];
     }
-    [b" ", jump_words(m.sq), target, b";"]
+    [jump_words(m.sq), target]
 }
 
-// A number below 100 as two digits.
-fn digits(k: u32) -> [u8; 2]
+// A number below 100 as two digits, and the mark behind it.
+fn digits(k: u32, mark: u8) -> [u8; 3]
     requires { k < 100 }
-    ensures { result ≡ (48 + k / 10) ∷ (48 + k % 10) ∷ [] }
+    ensures { result ≡ (48 + k / 10) ∷ (48 + k % 10) ∷ mark ∷ [] }
 {
-    [b'0' + (k / 10) as u8, b'0' + (k % 10) as u8]
+    [b'0' + (k / 10) as u8, b'0' + (k % 10) as u8, mark]
 }
 
-// A number below 100 in decimal, of its two digits: no leading zero.
+// Such digits in decimal: no leading zero.
 #[tactic(auto, unfolding(text::specs::Decimal::short_decimal))]
-fn short(k: u32, digits: &[u8; 2]) -> &[u8]
-    requires { digits.now ≡ (48 + k / 10) ∷ (48 + k % 10) ∷ [] }
-    ensures { result.now ≡ short_decimal k }
+fn short(k: u32, digits: &[u8; 3]) -> &[u8]
+    requires { take 2 digits.now ≡ (48 + k / 10) ∷ (48 + k % 10) ∷ [] }
+    ensures { result.now ≡ short_decimal k ++ drop 2 digits.now }
 {
     if k < 10 {
         return &digits[1..];
@@ -138,17 +148,15 @@ fn short(k: u32, digits: &[u8; 2]) -> &[u8]
     digits
 }
 
-// The pieces of a line, of its number and its jump's target in decimal.
-fn pieces<'a>(number: &'a [u8], m: Fields, target: &'a [u8]) -> [&'a [u8]; 15]
-    requires { target.now ≡ short_decimal m.end }
-    ensures { spelt result ≡ number.now ++ (58 ∷ []) ++ operation_part m ++ transfer_part m ++ jump_part m ++ 10 ∷ [] }
+// The pieces of a line, of its number with the colon and its jump's target with the semicolon.
+fn pieces<'a>(number: &'a [u8], m: Fields, target: &'a [u8]) -> [&'a [u8]; 10]
+    requires { target.now ≡ short_decimal m.end ++ 59 ∷ [] }
+    ensures { spelt result ≡ number.now ++ operation_part m ++ transfer_part m ++ jump_part m ++ 10 ∷ [] }
 {
-    let [gap, to, sign, x, y, z, stop] = operation(m);
-    let [space, words, to_line, last] = jump(m, target);
+    let [to, x, y, z, stop] = operation(m);
     let moved = transfer(m);
-    [
-        number, b":", gap, to, sign, x, y, z, stop, moved, space, words, to_line, last, b"\n",
-    ]
+    let [words, goal] = jump(m, target);
+    [number, to, x, y, z, stop, moved, words, goal, b"\n"]
 }
 
 // A control word as a line, from the start of the room. A smaller room than a line may need, or a number that no line has, is left as found.
@@ -160,7 +168,7 @@ pub fn put_line(room: &mut [u8], number: u32, word: u32) -> usize
         return 0;
     }
     let m = fields_of(word);
-    let own = digits(number);
-    let end = digits(m.end);
+    let own = digits(number, b':');
+    let end = digits(m.end, b';');
     put_pieces(room, &pieces(short(number, &own), m, short(m.end, &end)))
 }

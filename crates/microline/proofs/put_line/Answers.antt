@@ -18,7 +18,7 @@ digits-end-requires c =
 
 line_spelt : (c : After-pieces) → spelt c.pieces.result ≡ line c.args.number c.fields_of-m.result
 unfolding line
-line_spelt c = rw c.short.ensures at c.pieces.ensures
+line_spelt c = c.pieces.ensures ∙ rw (c.short.ensures, c.digits-own.ensures)
 
 pub put_pieces-requires : goal.put_pieces-requires
 put_pieces-requires c =
