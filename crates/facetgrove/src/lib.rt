@@ -93,11 +93,11 @@ pub extern "C" fn facetgrove_micro_list(
 pub extern "C" fn facetgrove_image_read(image: &[u8], memory: &mut [u16]) -> u32
     ensures { reading image.now memory.old ≡ record { answer = result; memory = memory.new } }
 {
-    let answer = image::read(image, memory);
-    answer.number()
+    image::read(image, memory).err().map_or(0, u32::from)
 }
 
 // A memory's image, at the start of the room.
+#[tactic(auto, unfolding(crate::specs::Rooms::write_called))]
 #[unsafe(no_mangle)]
 pub extern "C" fn facetgrove_image_write(
     memory: &[u16],
@@ -107,9 +107,8 @@ pub extern "C" fn facetgrove_image_write(
     ensures { write_called memory.now room.old ≡ record { answer = result; room = room.new; told = length.new } }
 {
     let written = image::write(memory, room);
-    let answer = written.answer;
-    *length = [written.length];
-    answer.number()
+    *length = [written.unwrap_or(0)];
+    written.err().map_or(0, u32::from)
 }
 
 // The printed microprogram.

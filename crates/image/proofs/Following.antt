@@ -1,32 +1,10 @@
--- Laws of records read as numbers: a record's number, and the first fault of records of which each follows the one before.
-use Prim.Native.Nat.{ℕ, suc, ◌+◌, ◌*◌, ◌/◌, ◌%◌, ◌≤◌, ◌<◌}
-use mathlib.Core.Path.{◌≡◌, refl, sym, ◌∙◌, ap₂}
-use mathlib.Core.Bool.{Bool, true, false, cond}
-use mathlib.Core.List.{List, [], ◌∷◌}
-use native.Mathlib.Omega.{arith}
-use lib.Dec.{ltb, eqb}
+-- Laws of records of which each follows the one before: none but the last can be at fault.
+use Rattle.std.proofs.Common.{◌≡◌, ℕ, suc, ◌≤◌, ◌<◌, Bool, true, false, cond, ltb, eqb, List, [], ◌∷◌, refl, sym, ◌∙◌, arith}
 use borrow.Table.Steps.{cases}
 use borrow.Author.Tests.{ltb-true, ltb-false, lt-ltb, le-ltb, eqb-true}
 use Rattle.image.specs.Records.{fault, first_fault}
 use Rattle.image.specs.declared.Record.{Record}
 use Rattle.image.proofs.Records.{Sound, sound, no_fault, passed, stopped}
-
--- The record of a number: its address times 65,536, and its value.
-abbrev pub numbered : ℕ → Record
-numbered n = record { address = record { 0 = n / 65536 }; value = n % 65536 }
-
-pub number_record : (r : Record) → r.value < 65536 → r ≡ numbered (r.address.0 * 65536 + r.value)
-number_record r small =
-    let address : r.address.0 ≡ (r.address.0 * 65536 + r.value) / 65536 = omega arith in
-    let value : r.value ≡ (r.address.0 * 65536 + r.value) % 65536 = omega arith in
-    ap₂ (λ (a v : ℕ). record { address = record { 0 = a }; value = v }) address value
-
--- A number is above all of one address where its own address is above that one.
-pub above_all : (m n : ℕ) → ltb (m / 65536 * 65536 + 65535) n ≡ ltb (m / 65536) (n / 65536)
-above_all m n =
-    cases (ltb (m / 65536) (n / 65536))
-    (λ (h : ltb (m / 65536) (n / 65536) ≡ true). rw h (lt-ltb (m / 65536 * 65536 + 65535) n (omega (arith, ltb-true (m / 65536) (n / 65536) h))))
-    (λ (h : ltb (m / 65536) (n / 65536) ≡ false). rw h (le-ltb (m / 65536 * 65536 + 65535) n (omega (arith, ltb-false (m / 65536) (n / 65536) h))))
 
 -- The first fault is the same for every `least` that the first record is not below.
 by_itself : (least : ℕ) (r : Record) (rest : List Record) → least ≤ r.address.0 → first_fault 0 (r ∷ rest) ≡ first_fault least (r ∷ rest)
