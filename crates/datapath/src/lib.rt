@@ -9,7 +9,7 @@ ghost use Rattle.bus.specs.Code.Lent.{Stays};
 use bus::{Bus, Stop};
 use word::Address;
 
-// What a cycle leaves half done.
+// What a cycle leaves half done. Three states and no Option: the paper numbers them 0, 1 and 2, and C sees the numbers.
 #[derive(Clone, Copy, Debug, PartialEq, Eq)]
 pub enum Half {
     Nothing,

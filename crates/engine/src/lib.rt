@@ -86,10 +86,10 @@ fn check(
     ensures { saying result ≡ refusal store.now input.now (state_of machine memory.now log.now) }
 {
     if bus::is_wrong_memory(memory) || store::is_wrong(store) {
-        return Err(Refusal::Lent(bus::Refusal::WrongSize));
+        return Err(bus::Refusal::WrongSize.into());
     }
     if bus::is_past_end(input, machine.place, log, machine.count) {
-        return Err(Refusal::Lent(bus::Refusal::PastEnd));
+        return Err(bus::Refusal::PastEnd.into());
     }
     let registers = machine.registers;
     if bus::is_outside(registers[CP])
@@ -97,7 +97,7 @@ fn check(
         || bus::is_outside(registers[REM])
         || 63 < machine.line.0
     {
-        return Err(Refusal::Lent(bus::Refusal::OutOfRange));
+        return Err(bus::Refusal::OutOfRange.into());
     }
     match store::first_bad(store) {
         Some(line) => Err(Refusal::BadWord(Line(line as u8))),
@@ -118,7 +118,7 @@ fn machine_of(at: Standing, registers: [u16; 8]) -> Machine
     }
 }
 
-// n cycles in turn. What a cycle changes stands in variables of its own, which the compiler keeps in registers.
+// n cycles in turn. The registers stand apart from what else a cycle changes, which the compiler then keeps in processor registers.
 fn repeat(store: &[u32], bus: &mut Bus, machine: Machine, n: u32) -> Ran
     ensures stays { Stays bus.old bus.new }
     ensures repeats { ended 0 (cycles store.now bus.old.input.now n (state_of machine bus.old.memory.now bus.old.log.now)) ≡ ended_by machine (Ok result) bus.new.memory.now bus.new.log.now }
@@ -150,7 +150,7 @@ fn repeat(store: &[u32], bus: &mut Bus, machine: Machine, n: u32) -> Ran
     }
 }
 
-// A run of n cycles: refusals 1 to 4 before any cycle, then the cycles in turn.
+// A run of n cycles: refusals 1 to 4 before any cycle, then the cycles in turn. The lists come one by one, as C lends them.
 pub fn run(
     store: &[u32],
     memory: &mut [u16],
