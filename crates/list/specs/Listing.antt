@@ -11,7 +11,7 @@ words_of [] = []
 words_of (a ∷ []) = []
 words_of (a ∷ b ∷ []) = []
 words_of (a ∷ b ∷ c ∷ []) = []
-words_of (a ∷ b ∷ c ∷ d ∷ rest) = (word_of (record { 0 = a; 1 = b }) * 65536 + word_of (record { 0 = c; 1 = d })) ∷ words_of rest
+words_of (a ∷ b ∷ c ∷ d ∷ rest) = (word_of (a ∷ b ∷ []) * 65536 + word_of (c ∷ d ∷ [])) ∷ words_of rest
 
 -- A store with these control words, the first of them at a line.
 unfoldable pub with_words : List ℕ → ℕ → List ℕ → List ℕ
