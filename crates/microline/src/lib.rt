@@ -8,7 +8,7 @@ ghost use Rattle.text.specs.Decimal.{short_decimal};
 ghost use Rattle.microline.specs.Line.{laid_line};
 ghost use Rattle.microline.specs.Code.Pieces.{spelt};
 
-use microword::{Fields, fields_of};
+use microword::{Fields, fields_of, is_idle};
 
 // Pieces, one behind the other.
 fn put_pieces(room: &mut [u8], pieces: &[&[u8]]) -> usize
@@ -79,11 +79,11 @@ fn formula<'a>(m: Fields) -> [&'a [u8]; 3]
 }
 
 // The operation; none where nothing asks for its result.
-#[tactic(auto, unfolding(microtext::specs::Listing::operation, microword::specs::Microword::idle))]
+#[tactic(auto, unfolding(microtext::specs::Listing::operation))]
 fn operation<'a>(m: Fields) -> [&'a [u8]; 5]
     ensures { spelt result ≡ operation_part m }
 {
-    if m.hs == 0 && matches!(m.sq, 0 | 3) {
+    if is_idle(m) {
         return [b"", b"", b"", b"", b""];
     }
     let [x, y, z] = formula(m);
