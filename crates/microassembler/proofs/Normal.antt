@@ -6,18 +6,20 @@ use mathlib.Core.List.{List, [], ◌∷◌}
 use native.Mathlib.Omega.{arith}
 use borrow.Author.Tests.{lt-ltb, ltb-true, leb-false, eqb-true, eq-eqb}
 use lib.Dec.{leb, ltb, eqb}
+use Rattle.std.specs.Prelude.{Option, Some, None, Ok, Err, is_some}
+use Rattle.std.specs.Option.{option_map, option_eq, unwrap_or}
+use Rattle.part.proofs.Formula.{named}
 use Rattle.microword.specs.Microword.{word_of, idle, binary, unused_clear, is_normal}
 use Rattle.microword.proofs.Laws.{fields_back, word_below}
 use Rattle.microword.specs.Code.Within.{Within}
 use Rattle.microword.specs.declared.Fields.{Fields}
 use Rattle.token.specs.Tokens.{Token, tokens}
 use Rattle.part.specs.Grammar.{destination, operation, formula, bare, jump, test, part, register_named}
-use Rattle.microtext.specs.Line.{last_part, parts, divided, some_foreign, add, nothing, given, clash, settled, meaning, behind_number, numbered, line, has_test}
+use Rattle.microtext.specs.Line.{last_part, parts, divided, add, nothing, clash, settled, meaning, behind_number, numbered, line, has_test}
 use Rattle.part.specs.declared.Part.{Part}
-use Rattle.part.specs.declared.Part.TheVariants.{Operation, Transfer, Jump, Foreign}
+use Rattle.part.specs.declared.Part.TheVariants.{Operation, Transfer, Jump}
 use Rattle.microtext.specs.declared.Given.{Given}
 use Rattle.microtext.specs.declared.Fault.TheVariants.{ExtraLine, WrongNumber, Ungrammatical, FarTarget, WrongParts}
-use Rattle.microtext.specs.declared.Meaning.TheVariants.{Word, Refused}
 use Rattle.word.proofs.Tests.{both, neither, either, All}
 use Rattle.text.specs.Text.{◌is◌}
 use Rattle.text.specs.Decimal.{from_decimal}
@@ -48,57 +50,95 @@ is_normal_lem m h k =
     )
 
 -- What each part keeps to.
-abbrev pub FinePart : Part → Type 0
-FinePart (Operation to f a b) = (to < 9) × (f < 8) × (a < 8) × (b < 8) × ((eqb f 3 || eqb f 4 || eqb f 5) ≡ false → b ≡ 0)
+abbrev Stored : Option ℕ → Type 0
+Stored None = Unit {0}
+Stored (Some to) = to < 8
+
+abbrev FinePart : Part → Type 0
+FinePart (Operation to f a b) = Stored to × (f < 8) × (a < 8) × (b < 8) × ((eqb f 3 || eqb f 4 || eqb f 5) ≡ false → b ≡ 0)
 FinePart (Transfer rd wr) = (rd < 2) × (wr < 2)
 FinePart (Jump sq k) = (1 ≤ sq) × (sq < 4)
-FinePart Foreign = Unit {0}
 
-operation_fine : (to f a b : ℕ) → f < 8 → ((eqb f 3 || eqb f 4 || eqb f 5) ≡ false → b ≡ 0) → FinePart (operation to f a b)
-unfolding operation
-operation_fine to f a b l z = go (ltb to 9) (ltb a 8) (ltb b 8) refl refl refl
+abbrev pub Fine : Option Part → Type 0
+Fine None = Unit {0}
+Fine (Some p) = FinePart p
+
+-- A register's number, if there is one.
+abbrev Register : Option ℕ → Type 0
+Register None = Unit {0}
+Register (Some a) = a < 8
+
+register_fine : (t : Token) → Register (register_named t)
+register_fine t = go (register_named t) refl
   where
-    go : (p q r : Bool) → ltb to 9 ≡ p → ltb a 8 ≡ q → ltb b 8 ≡ r → FinePart (cond (p && q && r) (Operation to f a b) Foreign)
-    go true true true p q r = (ltb-true to 9 p, l, ltb-true a 8 q, ltb-true b 8 r, z)
-    go true true false p q r = tt
-    go true false r' p q r = tt
-    go false q' r' p q r = tt
+    go : (r : Option ℕ) → register_named t ≡ r → Register r
+    go None e = tt
+    go (Some a) e = (named t a e).0
 
-formula_fine : (to : ℕ) (ts : List Token) → FinePart (formula to ts)
+-- Where an operation stores, if it does.
+abbrev Place : Option (Option ℕ) → Type 0
+Place None = Unit {0}
+Place (Some to) = Stored to
+
+destination_fine : (t : Token) → Place (destination t)
+unfolding destination
+destination_fine t = go (t is "alu") (register_named t) (register_fine t)
+  where
+    go : (b : Bool) (r : Option ℕ) → Register r → Place (cond b (Some None) (option_map (λ x. Some x) r))
+    go true r h = tt
+    go false None h = tt
+    go false (Some a) h = h
+
+operation_fine : (to : Option (Option ℕ)) (f : ℕ) (a b : Option ℕ) → Place to → f < 8 → Register a → Register b
+    → ((eqb f 3 || eqb f 4 || eqb f 5) ≡ false → b ≡ Some 0) → Fine (operation to f a b)
+unfolding operation
+operation_fine None f a b p l h k z = tt
+operation_fine (Some to) f None b p l h k z = tt
+operation_fine (Some to) f (Some a) None p l h k z = tt
+operation_fine (Some to) f (Some a) (Some b) p l h k z = (p, l, h, k, λ e. some_same (z e))
+  where
+    some_same : Some b ≡ Some 0 → b ≡ 0
+    some_same q = cc
+
+formula_fine : (to : Option (Option ℕ)) → Place to → (ts : List Token) → Fine (formula to ts)
 unfolding formula
-formula_fine to [] = tt
-formula_fine to (r ∷ []) = operation_fine to 0 (register_named r) 0 (omega arith) (λ z. refl)
-formula_fine to (o ∷ r ∷ []) =
-    either FinePart (o is "<<") (operation_fine to 6 (register_named r) 0 (omega arith) (λ z. refl))
-    (either FinePart (o is ">>") (operation_fine to 7 (register_named r) 0 (omega arith) (λ z. refl)) tt)
-formula_fine to (r ∷ o ∷ q ∷ []) =
-    either FinePart (o is "+")
-    (either FinePart (q is "1") (operation_fine to 1 (register_named r) 0 (omega arith) (λ z. refl)) (operation_fine to 3 (register_named r) (register_named q) (omega arith) (λ z. absurd (true≢false z))))
-    (either FinePart (o is "-")
-    (either FinePart (q is "1") (operation_fine to 2 (register_named r) 0 (omega arith) (λ z. refl)) (operation_fine to 4 (register_named r) (register_named q) (omega arith) (λ z. absurd (true≢false z))))
-    (either FinePart (o is "^") (operation_fine to 5 (register_named r) (register_named q) (omega arith) (λ z. absurd (true≢false z))) tt))
-formula_fine to (r ∷ o ∷ q ∷ x ∷ ts) = tt
+formula_fine to p [] = tt
+formula_fine to p (r ∷ []) = operation_fine to 0 (register_named r) (Some 0) p (omega arith) (register_fine r) (omega arith) (λ z. refl)
+formula_fine to p (o ∷ r ∷ []) =
+    either Fine (o is "<<") (operation_fine to 6 (register_named r) (Some 0) p (omega arith) (register_fine r) (omega arith) (λ z. refl))
+    (either Fine (o is ">>") (operation_fine to 7 (register_named r) (Some 0) p (omega arith) (register_fine r) (omega arith) (λ z. refl)) tt)
+formula_fine to p (r ∷ o ∷ q ∷ []) =
+    either Fine (o is "+")
+    (either Fine (q is "1") (operation_fine to 1 (register_named r) (Some 0) p (omega arith) (register_fine r) (omega arith) (λ z. refl))
+    (operation_fine to 3 (register_named r) (register_named q) p (omega arith) (register_fine r) (register_fine q) (λ z. absurd (true≢false z))))
+    (either Fine (o is "-")
+    (either Fine (q is "1") (operation_fine to 2 (register_named r) (Some 0) p (omega arith) (register_fine r) (omega arith) (λ z. refl))
+    (operation_fine to 4 (register_named r) (register_named q) p (omega arith) (register_fine r) (register_fine q) (λ z. absurd (true≢false z))))
+    (either Fine (o is "^") (operation_fine to 5 (register_named r) (register_named q) p (omega arith) (register_fine r) (register_fine q) (λ z. absurd (true≢false z))) tt))
+formula_fine to p (r ∷ o ∷ q ∷ x ∷ ts) = tt
 
-jump_fine : (sq k : ℕ) → 1 ≤ sq → sq < 4 → FinePart (jump sq k)
+jump_fine : (sq : ℕ) (k : Option ℕ) → 1 ≤ sq → sq < 4 → Fine (jump sq k)
 unfolding jump
-jump_fine sq k l h = either FinePart (ltb k 100) (l, h) tt
+jump_fine sq None l h = tt
+jump_fine sq (Some k) l h = (l, h)
 
-test_fine : (c t : Token) (ts : List Token) → FinePart (test c t ts)
+test_fine : (c t : Token) (ts : List Token) → Fine (test c t ts)
 unfolding test
 test_fine c t [] = tt
 test_fine c t (g ∷ []) = tt
 test_fine c t (g ∷ k ∷ []) =
-    either FinePart (t is "then" && g is "goto")
-    (either FinePart (c is "n") (jump_fine 1 (from_decimal k) (omega arith) (omega arith)) (either FinePart (c is "z") (jump_fine 2 (from_decimal k) (omega arith) (omega arith)) tt))
+    either Fine (t is "then" && g is "goto")
+    (either Fine (c is "n") (jump_fine 1 (from_decimal k) (omega arith) (omega arith)) (either Fine (c is "z") (jump_fine 2 (from_decimal k) (omega arith) (omega arith)) tt))
     tt
 test_fine c t (g ∷ k ∷ x ∷ ts) = tt
 
-part_fine : (ts : List Token) → FinePart (part ts)
+part_fine : (ts : List Token) → Fine (part ts)
 unfolding part
 part_fine [] = tt
-part_fine (t ∷ []) = either FinePart (t is "rd") (omega arith, omega arith) (either FinePart (t is "wr") (omega arith, omega arith) tt)
-part_fine (t ∷ u ∷ []) = either FinePart (t is "goto") (jump_fine 3 (from_decimal u) (omega arith) (omega arith)) tt
-part_fine (t ∷ u ∷ v ∷ ts) = either FinePart (t is "if") (test_fine u v ts) (either FinePart (u is ":=") (formula_fine (destination t) (bare (v ∷ ts))) tt)
+part_fine (t ∷ []) = either Fine (t is "rd") (omega arith, omega arith) (either Fine (t is "wr") (omega arith, omega arith) tt)
+part_fine (t ∷ u ∷ []) = either Fine (t is "goto") (jump_fine 3 (from_decimal u) (omega arith) (omega arith)) tt
+part_fine (t ∷ u ∷ v ∷ ts) =
+    either Fine (t is "if") (test_fine u v ts) (either Fine (u is ":=") (formula_fine (destination t) (destination_fine t) (bare (v ∷ ts))) tt)
 
 -- What the parts have given keeps to the widths, but for a far target, and has no field before its part.
 pub record Kept (g : Given) : Type 0 where
@@ -135,26 +175,17 @@ kept_nothing =
     }
 
 -- A register or `alu`, and whether it stores.
-stored_register : (to : ℕ) → cond (ltb to 8) to 0 < 8
-stored_register to = go (ltb to 8) refl
-  where
-    go : (b : Bool) → ltb to 8 ≡ b → cond b to 0 < 8
-    go true e = ltb-true to 8 e
-    go false e = omega arith
+stored_register : (to : Option ℕ) → Stored to → unwrap_or to 0 < 8
+stored_register None h = omega arith
+stored_register (Some to) h = h
 
-stores : (to : ℕ) → cond (ltb to 8) 1 0 < 2
-stores to = go (ltb to 8)
-  where
-    go : (b : Bool) → cond b 1 0 < 2
-    go true = omega arith
-    go false = omega arith
+stores : (to : Option ℕ) → cond (is_some to) 1 0 < 2
+stores None = omega arith
+stores (Some to) = omega arith
 
-stores_none : (to : ℕ) → ◌≡◌ {A = ℕ} (cond (ltb to 8) 1 0) 0 → cond (ltb to 8) to 0 ≡ 0
-stores_none to = go (ltb to 8)
-  where
-    go : (b : Bool) → ◌≡◌ {A = ℕ} (cond b 1 0) 0 → cond b to 0 ≡ 0
-    go true e = absurd (omega arith)
-    go false e = refl
+stores_none : (to : Option ℕ) → ◌≡◌ {A = ℕ} (cond (is_some to) 1 0) 0 → unwrap_or to 0 ≡ 0
+stores_none None e = refl
+stores_none (Some to) e = absurd (omega arith)
 
 add_kept : (g : Given) (p : Part) → Kept g → FinePart p → Kept (add g p)
 unfolding add binary
@@ -162,7 +193,7 @@ add_kept g (Operation to f a b) k x =
     record {
       a = x.2;
       b = x.3;
-      s = stored_register to;
+      s = stored_register to x.0;
       hs = stores to;
       f = x.1;
       rd = k.rd;
@@ -206,15 +237,9 @@ add_kept g (Jump sq n) k x =
       end_used = λ e. let h = x.0 in absurd (omega arith);
       no_operation = k.no_operation;
     }
-add_kept g Foreign k x = k
 
-abbrev AllFine : List Part → Type 0
-AllFine ps = All FinePart ps
-
-given_kept : (ps : List Part) → AllFine ps → (g : Given) → Kept g → Kept (given g ps)
-unfolding given
-given_kept [] a g k = k
-given_kept (p ∷ ps) a g k = given_kept ps a.1 (add g p) (add_kept g p k a.0)
+abbrev AllFine : List (Option Part) → Type 0
+AllFine ps = All Fine ps
 
 parts_fine : (ps : List (List Token)) → AllFine (parts ps)
 unfolding parts last_part
@@ -262,11 +287,11 @@ module _ (g : Given) (c : clash g ≡ false) where
       unused false false p q e = k.b_used q
       unused false true p q e = absurd (false≢true e)
 
-settled_normal : (g : Given) → Kept g → (w : ℕ) → settled g ≡ Word w → is_normal w ≡ true
+settled_normal : (g : Given) → Kept g → (w : ℕ) → settled g ≡ Ok w → is_normal w ≡ true
 unfolding settled
 settled_normal g k w e = go g.far (clash g) refl refl e
   where
-    go : (f c : Bool) → g.far ≡ f → clash g ≡ c → cond f (Refused FarTarget) (cond c (Refused WrongParts) (Word (word_of g.fields))) ≡ Word w → is_normal w ≡ true
+    go : (f c : Bool) → g.far ≡ f → clash g ≡ c → cond f (Err FarTarget) (cond c (Err WrongParts) (Ok (word_of g.fields))) ≡ Ok w → is_normal w ≡ true
     go true c p q e = let o : ◌≡◌ {A = ℕ} 0 1 = cc in absurd (omega arith)
     go false true p q e = let o : ◌≡◌ {A = ℕ} 0 1 = cc in absurd (omega arith)
     go false false p q e =
@@ -275,31 +300,33 @@ settled_normal g k w e = go g.far (clash g) refl refl e
         record { a = k.a; b = k.b; s = k.s; hs = k.hs; f = k.f; rd = k.rd; wr = k.wr; sq = k.sq; end = k.end p } in
         subst (λ (x : ℕ). is_normal x ≡ true) v (is_normal_lem g.fields small (clear g q k))
 
+meaning_normal : (ps : List (Option Part)) → AllFine ps → (g : Given) → Kept g → (w : ℕ) → meaning g ps ≡ Ok w → is_normal w ≡ true
+unfolding meaning
+meaning_normal [] a g k w e = settled_normal g k w e
+meaning_normal (None ∷ ps) a g k w e = let o : ◌≡◌ {A = ℕ} 0 1 = cc in absurd (omega arith)
+meaning_normal (Some p ∷ ps) a g k w e = meaning_normal ps a.1 (add g p) (add_kept g p k a.0) w e
+
 -- The word of a line is normal.
-pub line_normal : (k : ℕ) (s : List ℕ) (w : ℕ) → line k s ≡ Word w → is_normal w ≡ true
-unfolding line numbered behind_number meaning
+pub line_normal : (k : ℕ) (s : List ℕ) (w : ℕ) → line k s ≡ Ok w → is_normal w ≡ true
+unfolding line numbered behind_number
 line_normal k s w e = go (ltb k 64) (tokens s) e
   where
-    whole : (f : Bool) (ps : List (List Token)) → cond f (Refused Ungrammatical) (settled (given nothing (parts ps))) ≡ Word w → is_normal w ≡ true
-    whole true ps e = let o : ◌≡◌ {A = ℕ} 0 1 = cc in absurd (omega arith)
-    whole false ps e = settled_normal (given nothing (parts ps)) (given_kept (parts ps) (parts_fine ps) nothing kept_nothing) w e
-
-    behind : (ts : List Token) → behind_number ts ≡ Word w → is_normal w ≡ true
+    behind : (ts : List Token) → behind_number ts ≡ Ok w → is_normal w ≡ true
     behind [] e = let o : ◌≡◌ {A = ℕ} 0 1 = cc in absurd (omega arith)
     behind (c ∷ ts) e = one (c is ":") e
       where
-        one : (b : Bool) → cond b (meaning nothing (parts (divided ts))) (Refused Ungrammatical) ≡ Word w → is_normal w ≡ true
-        one true e = whole (some_foreign (parts (divided ts))) (divided ts) e
+        one : (b : Bool) → cond b (meaning nothing (parts (divided ts))) (Err Ungrammatical) ≡ Ok w → is_normal w ≡ true
+        one true e = meaning_normal (parts (divided ts)) (parts_fine (divided ts)) nothing kept_nothing w e
         one false e = let o : ◌≡◌ {A = ℕ} 0 1 = cc in absurd (omega arith)
 
-    number_first : (ts : List Token) → numbered k ts ≡ Word w → is_normal w ≡ true
+    number_first : (ts : List Token) → numbered k ts ≡ Ok w → is_normal w ≡ true
     number_first [] e = let o : ◌≡◌ {A = ℕ} 0 1 = cc in absurd (omega arith)
-    number_first (n ∷ ts) e = one (eqb (from_decimal n) k) e
+    number_first (n ∷ ts) e = one (option_eq eqb (from_decimal n) (Some k)) e
       where
-        one : (b : Bool) → cond b (behind_number ts) (Refused WrongNumber) ≡ Word w → is_normal w ≡ true
+        one : (b : Bool) → cond b (behind_number ts) (Err WrongNumber) ≡ Ok w → is_normal w ≡ true
         one true e = behind ts e
         one false e = let o : ◌≡◌ {A = ℕ} 0 1 = cc in absurd (omega arith)
 
-    go : (b : Bool) (ts : List Token) → cond b (numbered k ts) (Refused ExtraLine) ≡ Word w → is_normal w ≡ true
+    go : (b : Bool) (ts : List Token) → cond b (numbered k ts) (Err ExtraLine) ≡ Ok w → is_normal w ≡ true
     go true ts e = number_first ts e
     go false ts e = let o : ◌≡◌ {A = ℕ} 0 1 = cc in absurd (omega arith)

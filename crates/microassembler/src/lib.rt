@@ -1,74 +1,63 @@
 // The microassembler: micro text to a control store.
 #![tactic(auto)]
 
-ghost use Rattle.std.specs.Prelude.{◌≡◌, length};
-ghost use Rattle.store.specs.Store.{words};
+ghost use Rattle.std.specs.Prelude.{◌≡◌};
+ghost use Rattle.word.specs.Answer.{answered};
 ghost use Rattle.microassembler.specs.Assembled.{number, assembled};
+ghost use Rattle.microassembler.specs.declared.Refusal.TheVariants.{Line as LineRefused};
 
-use microtext::{Fault, Reading};
+use microtext::Fault;
 use word::Line;
 
-#[derive(Clone, Copy)]
-pub enum Answer {
-    Done,
+// Why micro text is refused.
+#[derive(Clone, Copy, Debug, PartialEq, Eq)]
+pub enum Refusal {
     WrongSize,
     LongText,
-    Refused(Fault),
+    Line(Fault),
 }
 
-impl Answer {
-    // Document 01's number of it.
-    pub fn number(self) -> u32
-        ensures { result ≡ number self }
-    {
-        match self {
-            Answer::Done => 0,
-            Answer::WrongSize => 1,
-            Answer::LongText => 10,
-            Answer::Refused(fault) => fault.number(),
-        }
+impl From<Fault> for Refusal {
+    ghost from_gives = { λ f refusal. refusal ≡ LineRefused f };
+
+    fn from(f: Fault) -> Refusal {
+        Refusal::Line(f)
     }
 }
 
-// Lays the words of one store into another.
-fn copy_words(from: &[u32; 64], store: &mut [u32])
-    requires { (length (words from.now) ≡ 64) × (length (words store.old) ≡ 64) }
-    ensures { store.new ≡ from.now }
-{
-    let mut i: usize = 0;
-    while i < 64 {
-        let line = Line(i as u8);
-        store::put_word(store, line, store::word_at(from, line));
-        i += 1;
+// Document 01's number of it.
+impl From<Refusal> for u32 {
+    ghost from_gives = { λ refusal n. n ≡ number refusal };
+
+    fn from(refusal: Refusal) -> u32 {
+        match refusal {
+            Refusal::WrongSize => 1,
+            Refusal::LongText => 10,
+            Refusal::Line(fault) => u32::from(fault),
+        }
     }
 }
 
 // The control store that micro text asks for; a refusal leaves `store` as found.
-#[tactic(auto, using(crate::proofs::Filled::long_text))]
-pub fn assemble(text: &[u8], store: &mut [u32]) -> Answer
-    ensures { assembled text.now store.old ≡ record { answer = number result; store = store.new } }
+#[tactic(auto, using(crate::proofs::Filled::long_text, crate::proofs::Filled::wrong_store_lem))]
+pub fn assemble(text: &[u8], store: &mut [u32]) -> Result<(), Refusal>
+    ensures { assembled text.now store.old ≡ record { answer = answered number result; store = store.new } }
 {
     if store::is_wrong(store) {
-        return Answer::WrongSize;
+        return Err(Refusal::WrongSize);
     }
     if 8192 < text.len() {
-        return Answer::LongText;
+        return Err(Refusal::LongText);
     }
     let mut made = [0u32; 64];
-    let mut at: usize = 0;
-    let mut k: usize = 0;
+    let mut at = 0;
+    let mut k = 0u8;
     while at < text.len() {
-        let line = Line(k as u8);
-        let read = microtext::read_line(text, at, line);
-        match read {
-            Reading::Line { word, next } => {
-                store::put_word(&mut made, line, word);
-                at = next;
-            }
-            Reading::Faulty(fault) => return Answer::Refused(fault),
-        }
+        let read = microtext::read_line(text, at, Line(k))?;
+        store::put_word(&mut made, Line(k), read.word);
+        at = read.next;
         k += 1;
     }
-    copy_words(&made, store);
-    Answer::Done
+    store.copy_from_slice(&made);
+    Ok(())
 }

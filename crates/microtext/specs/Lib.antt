@@ -1,3 +1,4 @@
+pub mod Onward
 pub mod Line
 pub mod Reading
 pub mod Listing

@@ -1,18 +1,21 @@
 -- A line of micro text: its number, a colon, and parts divided by semicolons (01, Micro text and images; answers 11 to 15).
-use Rattle.std.specs.Prelude.{ℕ, Bool, true, false, cond, not, ◌&&◌, ◌||◌, List, [], ◌∷◌, leb, ltb, eqb}
+use Rattle.std.specs.Prelude.{ℕ, Bool, true, false, cond, not, ◌&&◌, ◌||◌, Option, Some, None, Result, Ok, Err, List, [], ◌∷◌, leb, ltb, eqb, is_some}
+use Rattle.std.specs.Option.{unwrap_or, option_eq}
 use Rattle.microword.specs.Microword.{word_of}
 use Rattle.microword.specs.declared.Fields.{Fields}
 use Rattle.token.specs.Tokens.{Token, tokens}
 use Rattle.part.specs.Grammar.{part}
 use Rattle.part.specs.declared.Part.{Part}
-use Rattle.part.specs.declared.Part.TheVariants.{Operation, Transfer, Jump, Foreign}
+use Rattle.part.specs.declared.Part.TheVariants.{Operation, Transfer, Jump}
 use Rattle.text.specs.Text.{◌is◌}
 use Rattle.text.specs.Decimal.{from_decimal}
 use Rattle.microtext.specs.declared.Given.{Given}
 use Rattle.microtext.specs.declared.Fault.{Fault}
 use Rattle.microtext.specs.declared.Fault.TheVariants.{ExtraLine, WrongNumber, Ungrammatical, FarTarget, WrongParts}
-use Rattle.microtext.specs.declared.Meaning.{Meaning}
-use Rattle.microtext.specs.declared.Meaning.TheVariants.{Word, Refused}
+
+-- What a line means: its word, or why it is refused.
+abbrev pub Meaning : Type 0
+Meaning = Result ℕ Fault
 
 -- Document 01's number of a line's refusal.
 abbrev pub number : Fault → ℕ
@@ -33,25 +36,15 @@ divided [] = [] ∷ []
 divided (t ∷ ts) = cut t (divided ts)
 
 -- Behind the last semicolon there is a part or nothing.
-unfoldable pub last_part : List Token → List Part
+unfoldable pub last_part : List Token → List (Option Part)
 last_part [] = []
 last_part (t ∷ ts) = part (t ∷ ts) ∷ []
 
 -- Before a semicolon there is a part; the last semicolon may be missing.
-unfoldable pub parts : List (List Token) → List Part
+unfoldable pub parts : List (List Token) → List (Option Part)
 parts [] = []
 parts (p ∷ []) = last_part p
 parts (p ∷ q ∷ ps) = part p ∷ parts (q ∷ ps)
-
-abbrev pub foreign : Part → Bool
-foreign (Operation to f a b) = false
-foreign (Transfer rd wr) = false
-foreign (Jump sq k) = false
-foreign Foreign = true
-
-unfoldable pub some_foreign : List Part → Bool
-some_foreign [] = false
-some_foreign (p ∷ ps) = foreign p || some_foreign ps
 
 -- A transfer, a jump, a jump with a test among the fields.
 abbrev pub has_transfer : Fields → Bool
@@ -71,7 +64,7 @@ add g (Operation to f a b) =
       far = g.far;
       twice = g.twice || g.operation;
       operation = true;
-      fields = record { a = a; b = b; s = cond (ltb to 8) to 0; hs = cond (ltb to 8) 1 0; f = f; rd = m.rd; wr = m.wr; sq = m.sq; end = m.end };
+      fields = record { a = a; b = b; s = unwrap_or to 0; hs = cond (is_some to) 1 0; f = f; rd = m.rd; wr = m.wr; sq = m.sq; end = m.end };
     }
 add g (Transfer rd wr) =
     let m : Fields = g.fields in
@@ -89,15 +82,10 @@ add g (Jump sq k) =
       operation = g.operation;
       fields = record { a = m.a; b = m.b; s = m.s; hs = m.hs; f = m.f; rd = m.rd; wr = m.wr; sq = sq; end = k };
     }
-add g Foreign = g
 
 -- No part given yet.
 abbrev pub nothing : Given
 nothing = record { far = false; twice = false; operation = false; fields = record { a = 0; b = 0; s = 0; hs = 0; f = 0; rd = 0; wr = 0; sq = 0; end = 0 } }
-
-unfoldable pub given : Given → List Part → Given
-given g [] = g
-given g (p ∷ ps) = given (add g p) ps
 
 -- 15: a kind of part given twice, rd with wr, a test with no operation, alu with no test.
 unfoldable pub clash : Given → Bool
@@ -108,24 +96,26 @@ clash g =
 -- 14 comes before 15.
 unfoldable pub settled : Given → Meaning
 settled g =
-    cond g.far (Refused FarTarget)
-    (cond (clash g) (Refused WrongParts)
-    (Word (word_of g.fields)))
+    cond g.far (Err FarTarget)
+    (cond (clash g) (Err WrongParts)
+    (Ok (word_of g.fields)))
 
--- 13 comes before both. A line with no part is a zero word.
-unfoldable pub meaning : Given → List Part → Meaning
-meaning g ps = cond (some_foreign ps) (Refused Ungrammatical) (settled (given g ps))
+-- The parts in turn. 13, for one outside the grammar, comes before both. A line with no part is a zero word.
+unfoldable pub meaning : Given → List (Option Part) → Meaning
+meaning g [] = settled g
+meaning g (None ∷ ps) = Err Ungrammatical
+meaning g (Some p ∷ ps) = meaning (add g p) ps
 
 -- Behind the number: a colon, and the parts.
 unfoldable pub behind_number : List Token → Meaning
-behind_number [] = Refused Ungrammatical
-behind_number (c ∷ ts) = cond (c is ":") (meaning nothing (parts (divided ts))) (Refused Ungrammatical)
+behind_number [] = Err Ungrammatical
+behind_number (c ∷ ts) = cond (c is ":") (meaning nothing (parts (divided ts))) (Err Ungrammatical)
 
 -- 12: the number is missing, has a leading zero, or is not the next from 0.
 unfoldable pub numbered : ℕ → List Token → Meaning
-numbered k [] = Refused WrongNumber
-numbered k (n ∷ ts) = cond (eqb (from_decimal n) k) (behind_number ts) (Refused WrongNumber)
+numbered k [] = Err WrongNumber
+numbered k (n ∷ ts) = cond (option_eq eqb (from_decimal n) (Some k)) (behind_number ts) (Err WrongNumber)
 
 -- The line k, counted from 0, of these bytes. 11: a 65th line, whatever it holds.
 unfoldable pub line : ℕ → List ℕ → Meaning
-line k s = cond (ltb k 64) (numbered k (tokens s)) (Refused ExtraLine)
+line k s = cond (ltb k 64) (numbered k (tokens s)) (Err ExtraLine)

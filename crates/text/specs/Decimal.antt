@@ -1,5 +1,5 @@
 -- Numbers in decimal, written and read; byte 48 is the digit 0.
-use Rattle.std.specs.Prelude.{ℕ, zero, suc, ◌+◌, ◌-◌, ◌*◌, ◌/◌, ◌%◌, Bool, cond, not, ◌&&◌, List, [], ◌∷◌, ◌++◌, leb, ltb, eqb}
+use Rattle.std.specs.Prelude.{ℕ, zero, suc, ◌+◌, ◌-◌, ◌*◌, ◌/◌, ◌%◌, Bool, cond, not, ◌&&◌, Option, Some, None, List, [], ◌∷◌, ◌++◌, leb, ltb, eqb}
 use Prim.Native.Char.{code}
 
 abbrev pub digit : ℕ → Bool
@@ -18,9 +18,9 @@ decimal n = digits 20 n
 unfoldable pub short_decimal : ℕ → List ℕ
 short_decimal n = cond (ltb n 10) ((48 + n) ∷ []) ((48 + n / 10) ∷ (48 + n % 10) ∷ [])
 
--- The number that one or two digits with no leading zero spell; 100 where the bytes are something else.
-unfoldable pub from_decimal : List ℕ → ℕ
-from_decimal [] = 100
-from_decimal (a ∷ []) = cond (digit a) (a - code "0") 100
-from_decimal (a ∷ b ∷ []) = cond (digit a && digit b && not (eqb a (code "0"))) ((a - code "0") * 10 + (b - code "0")) 100
-from_decimal (a ∷ b ∷ c ∷ s) = 100
+-- The number that one or two digits with no leading zero spell, if the bytes are that.
+unfoldable pub from_decimal : List ℕ → Option ℕ
+from_decimal [] = None
+from_decimal (a ∷ []) = cond (digit a) (Some (a - code "0")) None
+from_decimal (a ∷ b ∷ []) = cond (digit a && digit b && not (eqb a (code "0"))) (Some ((a - code "0") * 10 + (b - code "0"))) None
+from_decimal (a ∷ b ∷ c ∷ s) = None

@@ -2,15 +2,16 @@
 use Prim.Native.Nat.{ℕ, ◌+◌, ◌-◌, ◌*◌, ◌/◌, ◌%◌, ◌^◌, ◌≤◌, ◌<◌}
 use mathlib.Core.Path.{◌≡◌, refl, sym, ap, ◌∙◌}
 use mathlib.Core.Bool.{Bool, true, false, cond, not, ◌&&◌, and-true, and-false}
-use mathlib.Core.List.{[], ◌∷◌}
+use mathlib.Core.List.{List, [], ◌∷◌}
 use native.Mathlib.Omega.{arith}
-use borrow.Author.Tests.{leb-true, leb-false, lt-leb, lt-ltb, eqb-true, eqb-false}
-use lib.Dec.{leb, eqb}
+use borrow.Author.Tests.{leb-true, leb-false, lt-leb, lt-ltb, eqb-true, eqb-false, ne_eqb}
+use lib.Dec.{leb, ltb, eqb}
+use Rattle.std.specs.Prelude.{Some, None}
+use Rattle.word.proofs.Tests.{cond_same}
 use Rattle.text.specs.Decimal.{digit, from_decimal}
 use Rattle.token.specs.Tokens.{Token}
 use Rattle.token.specs.Code.Next.{grown, packed_after, packed}
 use Rattle.token.proofs.Bytes.{Bytes}
-use Rattle.token.proofs.Next.{packed_least}
 use Rattle.token.specs.Code.Numbers.{decimal_of}
 
 leb_same : (m n k l : ℕ) → (m ≤ n → k ≤ l) → (k ≤ l → m ≤ n) → leb m n ≡ leb k l
@@ -25,16 +26,24 @@ leb_same m n k l f g = go (leb k l) (leb m n) refl refl
 grown_small : (n c : ℕ) → n < 2 ^ 33 → grown n c ≡ n * 256 + c
 grown_small n c h = rw (lt-ltb n (2 ^ 33) h)
 
+-- A token's number is at least that of its first bytes.
+grown_more : (n c : ℕ) → n ≤ grown n c
+grown_more n c = go (ltb n (2 ^ 33))
+  where
+    go : (b : Bool) → n ≤ cond b (n * 256 + c) n
+    go true = omega arith
+    go false = omega arith
+
+packed_least : (n : ℕ) (t : List ℕ) → n ≤ packed_after n t
+packed_least n [] = omega arith
+packed_least n (c ∷ t) = omega (arith, grown_more n c, packed_least (grown n c) t)
+
 number_one : (a : ℕ) → a < 256 → decimal_of (256 + a) ≡ from_decimal (a ∷ [])
 unfolding decimal_of from_decimal
 number_one a h =
-    let d : 256 + a - 304 ≡ a - 48 = omega arith in
-    rw (
-      leb_same 304 (256 + a) 48 a (λ z. omega arith) (λ z. omega arith),
-      leb_same (256 + a) 313 a 57 (λ z. omega arith) (λ z. omega arith),
-      lt-leb 305 ((256 + a) / 256) (omega arith),
-      d,
-    )
+    let q : (256 + a) / 256 ≡ 1 = omega arith in
+    let m : (256 + a) % 256 ≡ a = omega arith in
+    rw (q, m) refl
 
 -- A first digit that is not 0.
 not_zero : (a : ℕ) → leb 49 a ≡ (leb 48 a && not (eqb a 48))
@@ -51,26 +60,30 @@ number_two a b h l =
     let m : ((256 + a) * 256 + b) % 256 ≡ b = omega arith in
     let d : 256 + a - 304 ≡ a - 48 = omega arith in
     rw (
-      lt-leb ((256 + a) * 256 + b) 313 (omega arith),
-      and-false (leb 304 ((256 + a) * 256 + b)),
       q,
       m,
       d,
+      ne_eqb (256 + a) 1 (λ z. omega arith),
       leb_same 305 (256 + a) 49 a (λ z. omega arith) (λ z. omega arith),
       leb_same (256 + a) 313 a 57 (λ z. omega arith) (λ z. omega arith),
       not_zero a,
     )
-    (ap (λ (t : Bool). cond t ((a - 48) * 10 + (b - 48)) 100) (turned (leb 48 a) (not (eqb a 48)) (leb a 57) (digit b)))
+    (turned (leb 48 a) (not (eqb a 48)) (leb a 57) (digit b))
   where
-    turned : (p n q r : Bool) → (p && n && q && r) ≡ (p && q && r && n)
-    turned false n q r = refl
-    turned true false q r = sym (and-false (q && r))
-    turned true true q r = sym (and-true (q && r))
+    turned : (p n q r : Bool) → cond r (cond ((p && n) && q) (Some ((a - 48) * 10 + (b - 48))) None) None ≡ cond ((p && q) && r && n) (Some ((a - 48) * 10 + (b - 48))) None
+    turned false n q false = refl
+    turned true n false false = refl
+    turned true n true false = refl
+    turned false n q true = refl
+    turned true false false true = refl
+    turned true false true true = refl
+    turned true true false true = refl
+    turned true true true true = refl
 
-number_large : (n : ℕ) → 2 ^ 24 ≤ n → decimal_of n ≡ 100
+number_large : (n : ℕ) → 2 ^ 24 ≤ n → decimal_of n ≡ None
 unfolding decimal_of
 number_large n h =
-    rw (lt-leb n 313 (omega arith), and-false (leb 304 n), lt-leb (n / 256) 313 (omega arith), and-false (leb 305 (n / 256)))
+    rw (ne_eqb (n / 256) 1 (λ z. omega arith), lt-leb (n / 256) 313 (omega arith), and-false (leb 305 (n / 256))) (cond_same (digit (n % 256)) None)
 
 pub decimal_of_lem : (u : Token) → Bytes u → decimal_of (packed u) ≡ from_decimal u
 unfolding from_decimal decimal_of

@@ -2,6 +2,7 @@
 use Prim.Native.Nat.{ℕ}
 use mathlib.Core.Path.{◌≡◌}
 use mathlib.Core.List.{List}
+use Rattle.std.specs.Prelude.{Option}
 use Rattle.word.proofs.Laws.{only}
 use Rattle.token.specs.Code.Next.{start_at, scanned}
 use Rattle.token.specs.declared.Scanned.{Scanned}
@@ -13,5 +14,5 @@ only_start text at r s p q = only p q
 pub only_scanned : (text : List ℕ) (at : ℕ) (r s : Scanned) → r ≡ scanned text at → s ≡ scanned text at → r ≡ s
 only_scanned text at r s p q = only p q
 
-pub only_decimal : (t r s : ℕ) → r ≡ decimal_of t → s ≡ decimal_of t → r ≡ s
+pub only_decimal : (t : ℕ) (r s : Option ℕ) → r ≡ decimal_of t → s ≡ decimal_of t → r ≡ s
 only_decimal t r s e f = only e f

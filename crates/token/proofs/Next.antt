@@ -1,5 +1,5 @@
--- What the equation of `next_token` says to one who takes a line's tokens in turn: the number of the next one, with those behind it, are
--- the line's, and the line ends where it did.
+-- What the equation of `next_token` says to one who takes a line's tokens in turn: the next one, with those behind it, are the line's, and the
+-- line ends where it did.
 use Prim.Native.Nat.{ℕ, ◌+◌, ◌-◌, ◌*◌, ◌^◌, ◌≤◌, ◌<◌}
 use mathlib.Core.Path.{◌≡◌, refl, sym, ap, subst, ◌∙◌}
 use mathlib.Core.Bool.{Bool, true, false, cond}
@@ -7,37 +7,29 @@ use mathlib.Core.List.{List, [], ◌∷◌, map}
 use native.Mathlib.Omega.{arith}
 use borrow.Author.Tests.{ne_eqb}
 use lib.Dec.{ltb, eqb}
+use Rattle.std.specs.Prelude.{Option, Some, None}
 use lib.ListN.{length, take, drop, drop_of_length-le, length-drop}
 use lib.Seq.{drop-drop}
 use Rattle.text.specs.Text.{before, line_at, end_at, span}
 use Rattle.text.proofs.Lines.{line_behind, line_within, line_part}
 use Rattle.token.specs.Tokens.{Token, ended, tokens_after, tokens}
-use Rattle.token.specs.Code.Next.{start_at, grown, packed_after, packed, first, spaces, scanned}
+use Rattle.token.specs.Code.Next.{start_at, packed, told, first, spaces, scanned}
+use Rattle.token.specs.declared.Token.{Token as Packed}
 use Rattle.token.specs.declared.Scanned.{Scanned}
 use Rattle.token.proofs.Split.{Split, split}
 use Rattle.token.specs.Code.Numbers.{codes_at}
 
--- The next token of a line and what is behind it; 1 and the line's end where there is none.
+-- The numbers of a line's tokens: that of the next one and those behind it, if there is a next one.
+abbrev pub taking : Option Packed → List ℕ → List ℕ
+taking None behind = []
+taking (Some token) behind = token.0 ∷ behind
+
+-- The next token of a line and what is behind it; none at the line's end.
 pub record NextToken (text : List ℕ) (at : ℕ) (r : Scanned) : Type 0 where
-  pub codes : codes_at text at ≡ cond (eqb r.token 1) [] (r.token ∷ codes_at text r.behind)
+  pub codes : codes_at text at ≡ taking r.token (codes_at text r.behind)
   pub line_end : end_at text r.behind ≡ end_at text at
-  pub none : r.token ≡ 1 → r.behind ≡ end_at text at
-  pub some : (r.token ≡ 1 → ⊥) → (at < r.behind) × (r.behind ≤ length text)
-
--- A token's number is above 1.
-grown_more : (n c : ℕ) → n ≤ grown n c
-grown_more n c = go (ltb n (2 ^ 33))
-  where
-    go : (b : Bool) → n ≤ cond b (n * 256 + c) n
-    go true = omega arith
-    go false = omega arith
-
-pub packed_least : (n : ℕ) (t : List ℕ) → n ≤ packed_after n t
-packed_least n [] = omega arith
-packed_least n (c ∷ t) = omega (arith, grown_more n c, packed_least (grown n c) t)
-
-above : (c : ℕ) (t : List ℕ) → packed (c ∷ t) ≡ 1 → ⊥
-above c t e = omega (arith, packed_least (256 + c) t)
+  pub none : r.token ≡ None → r.behind ≡ end_at text at
+  pub some : (token : Packed) → r.token ≡ Some token → (at < r.behind) × (r.behind ≤ length text)
 
 -- The law for a line whose first token is t, behind k spaces.
 module _ (text : List ℕ) (at k : ℕ) (t : Token) (s : Split (line_at text at) t k) where
@@ -56,7 +48,7 @@ module _ (text : List ℕ) (at k : ℕ) (t : Token) (s : Split (line_at text at)
 pub record NextBytes (text : List ℕ) (at : ℕ) (r : Scanned) : Type 0 where
   pub tokens_at : tokens (line_at text at) ≡ ended (span text (start_at text at) r.behind) (tokens (line_at text r.behind))
   pub none : span text (start_at text at) r.behind ≡ [] → tokens (line_at text at) ≡ []
-  pub number : r.token ≡ packed (span text (start_at text at) r.behind)
+  pub number : r.token ≡ told (span text (start_at text at) r.behind)
   pub in_order : (start_at text at ≤ r.behind) × (at ≤ start_at text at)
 
 pub next_bytes : (text : List ℕ) (at : ℕ) (r : Scanned) → r ≡ scanned text at → NextBytes text at r
@@ -72,7 +64,7 @@ next_bytes text at r e = subst (NextBytes text at) (sym e) (go (first (tokens (l
         s.all ∙ ap tokens (drop_of_length-le (line_at text at) h)
     empty (x ∷ u) s z = absurd (omega (arith, ap length z))
 
-    go : (t : Token) → Split (line_at text at) t k → NextBytes text at (record { token = packed t; behind = at + k + length t })
+    go : (t : Token) → Split (line_at text at) t k → NextBytes text at (record { token = told t; behind = at + k + length t })
     go t s =
         let p : at + k + length t - (at + k) ≡ length t = omega arith in
         let b : t ≡ span text (at + k) (at + k + length t) =
@@ -80,28 +72,26 @@ next_bytes text at r e = subst (NextBytes text at) (sym e) (go (first (tokens (l
         record {
           tokens_at = s.all ∙ ap (λ (u : List ℕ). ended t (tokens u)) (sym (line_behind_token text at k t s)) ∙ ap (λ (u : Token). ended u (tokens (line_at text (at + k + length t)))) b;
           none = λ z. empty t s (b ∙ z);
-          number = ap packed b;
+          number = ap told b;
           in_order = (omega arith, omega arith);
         }
 
-holds : (text : List ℕ) (at k : ℕ) (t : Token) → Split (line_at text at) t k → NextToken text at (record { token = packed t; behind = at + k + length t })
-unfolding ended tokens_after
+holds : (text : List ℕ) (at k : ℕ) (t : Token) → Split (line_at text at) t k → NextToken text at (record { token = told t; behind = at + k + length t })
+unfolding ended tokens_after told
 holds text at k [] s =
     let h : length (line_at text at) ≤ k + 0 = omega (arith, s.none refl) in
     record {
       codes = ap (map packed) (s.all ∙ ap tokens (drop_of_length-le (line_at text at) h));
       line_end = end_stays text at k [] s;
       none = λ e. omega (arith, s.none refl);
-      some = λ n. absurd (n refl);
+      some = λ token e. let o : ◌≡◌ {A = ℕ} 0 1 = cc in absurd (omega arith);
     }
 holds text at k (x ∷ u) s =
     record {
-      codes =
-          rw (ne_eqb (packed (x ∷ u)) 1 (above x u))
-          (ap (map packed) (s.all ∙ ap (λ (r : List ℕ). (x ∷ u) ∷ tokens r) (sym (line_behind_token text at k (x ∷ u) s))));
+      codes = ap (map packed) (s.all ∙ ap (λ (r : List ℕ). (x ∷ u) ∷ tokens r) (sym (line_behind_token text at k (x ∷ u) s)));
       line_end = end_stays text at k (x ∷ u) s;
-      none = λ e. absurd (above x u e);
-      some = λ n. (omega arith, inside text at k (x ∷ u) s (omega arith));
+      none = λ e. let o : ◌≡◌ {A = ℕ} 0 1 = cc in absurd (omega arith);
+      some = λ token e. (omega arith, inside text at k (x ∷ u) s (omega arith));
     }
 
 pub next : (text : List ℕ) (at : ℕ) (r : Scanned) → r ≡ scanned text at → NextToken text at r

@@ -1,21 +1,35 @@
--- Runs of letters and of digits: one argument over a class of bytes, for the two loops that scan them. What a loop holds is `Run`; `run_first`
--- begins it, `run_more` goes on, `run_stops` and `run_over` end it.
-use Prim.Native.Nat.{ℕ, ◌+◌, ◌^◌, ◌≤◌, ◌<◌}
+-- How long a token is that begins with a byte: a run of letters or of digits as long as the run, by one argument over a class of bytes; a sign
+-- one byte, or two that are one token.
+use Prim.Native.Nat.{ℕ, ◌+◌, ◌≤◌, ◌<◌}
 use Prim.Native.Char.{code}
-use mathlib.Core.Path.{◌≡◌, refl, sym, ap, ◌∙◌}
-use mathlib.Core.Bool.{Bool, true, false, not, ◌&&◌, and-true, and-false, and_assoc, or-false, true≢false}
+use mathlib.Core.Path.{◌≡◌, refl, sym, ap, subst, ◌∙◌}
+use mathlib.Core.Bool.{Bool, true, false, not, cond, ◌&&◌, ◌||◌, and-true, and-false, and_assoc, or-false, not-not, true≢false}
 use mathlib.Core.List.{List, [], ◌∷◌, ◌++◌}
 use native.Mathlib.Omega.{arith}
-use borrow.Author.Tests.{leb-true, ne_eqb, lt-leb, not-true, not-false}
-use lib.Dec.{leb}
-use lib.ListN.{length, get_or}
+use borrow.Author.Tests.{leb-true, ne_eqb, eq-eqb, lt-leb, ltb-false, eqb-true, eqb-false}
+use lib.Dec.{leb, ltb, eqb}
+use lib.ListN.{length, get_or, drop, length-append}
+use lib.Seq.{drop-cons}
+use Rattle.std.specs.Prelude.{suc, Option, Some, None, unwrap_or}
+use Rattle.std.specs.List.{prefix_len, position_or_len, starts_with, slice_get}
 use Rattle.word.proofs.Tests.{both}
-use Rattle.text.specs.Text.{same}
+use Rattle.text.specs.Text.{bytes, same, before}
 use Rattle.text.specs.Decimal.{digit}
-use Rattle.token.specs.Tokens.{letter, every, one_token}
-use Rattle.token.specs.Code.Next.{grown, packed, scanned}
-use Rattle.token.proofs.Packed.{packed_more}
-use Rattle.token.proofs.Scan.{Along, along_first, along_more, token_ends}
+use Rattle.token.specs.Tokens.{letter, every, one_token, under, ended, going, tokens_after, started_by}
+use Rattle.token.specs.Code.Next.{first, token_len}
+use Rattle.token.proofs.Split.{tokens_first}
+
+swapped : (a b : ℕ) → eqb a b ≡ eqb b a
+swapped a b = go (eqb b a) refl
+  where
+    go : (t : Bool) → eqb b a ≡ t → eqb a b ≡ t
+    go true e = eq-eqb a b (sym (eqb-true b a e))
+    go false e = ne_eqb a b (λ z. eqb-false b a e (sym z))
+
+-- The token that the byte c begins, before the bytes s.
+begun : (c : ℕ) (s : List ℕ) → (c ≡ 10 → ⊥) → (c ≡ code " " → ⊥) → token_len (c ∷ s) ≡ length (first (tokens_after (c ∷ []) (before 10 s)))
+unfolding before started_by
+begun c s n b = rw (ne_eqb c 10 n, tokens_first c (before 10 s), ne_eqb c (code " ") b) refl
 
 pub every_more : (p : ℕ → Bool) (t : List ℕ) (c : ℕ) → every p (t ++ c ∷ []) ≡ (every p t && p c)
 unfolding every
@@ -46,58 +60,138 @@ digits = record { runs = runs; no_space = refl; no_end = refl }
         let h : x ≤ 57 = leb-true x 57 (both (leb 48 x) (leb x 57) e).1 in
         simp (lt-leb 97 x (omega arith), ne_eqb x 58 (λ z. omega arith), ne_eqb x 60 (λ z. omega arith), ne_eqb x 62 (λ z. omega arith), or-false)
 
--- What the scanning of a run from `at` holds at i.
-pub record Run (p : ℕ → Bool) (text : List ℕ) (at token i : ℕ) : Type 0 where
-  pub first : ℕ
-  pub rest : List ℕ
-  pub all : every p (first ∷ rest) ≡ true
-  pub number : token ≡ packed (first ∷ rest)
-  pub small : token < 2 ^ 41
-  pub along : Along text at (first ∷ rest) i
+module _ (p : ℕ → Bool) (of-class : Class p) where
+  -- The run that is under way goes on as long as the class has the bytes.
+  goes_on : (x : ℕ) (t s : List ℕ) → every p (x ∷ t) ≡ true
+      → length (first (tokens_after (x ∷ t) (before 10 s))) ≡ length (x ∷ t) + prefix_len p s
+  unfolding before first tokens_after ended going under every
+  goes_on x t [] e = omega arith
+  goes_on x t (c ∷ s) e = go (p c) (eqb c 10) refl refl (goes_on x (t ++ c ∷ []) s)
+    where
+      more : one_token (x ∷ t ++ c ∷ []) ≡ p c
+      more = of-class.runs x (t ++ c ∷ []) (both (p x) (every p t) e).0 ∙ every_more p (x ∷ t) c ∙ rw e
 
-module _ (p : ℕ → Bool) (of-class : Class p) (text : List ℕ) (at : ℕ) where
-  -- A run goes on with a byte just where the class has it.
-  goes_on : (token i c : ℕ) (r : Run p text at token i) → one_token (r.first ∷ r.rest ++ c ∷ []) ≡ p c
+      go : (b n : Bool) → p c ≡ b → eqb c 10 ≡ n
+          → (every p (x ∷ t ++ c ∷ []) ≡ true → length (first (tokens_after (x ∷ t ++ c ∷ []) (before 10 s))) ≡ length (x ∷ t ++ c ∷ []) + prefix_len p s)
+          → length (first (tokens_after (x ∷ t) (cond n [] (c ∷ before 10 s)))) ≡ length (x ∷ t) + cond b (1 + prefix_len p s) 0
+      go true true q r f = absurd (true≢false (sym q ∙ ap p (eqb-true c 10 r) ∙ of-class.no_end))
+      go true false q r f =
+          rw (more, q) (f (every_more p (x ∷ t) c ∙ rw (e, q)) ∙ omega (arith, length-append (x ∷ t) (c ∷ [])))
+      go false true q r f = omega arith
+      go false false q r f = rw (more, q) (omega arith)
+
+  pub run_len : (c : ℕ) (s : List ℕ) → p c ≡ true → prefix_len p (c ∷ s) ≡ token_len (c ∷ s)
   unfolding every
-  goes_on token i c r =
-      of-class.runs r.first (r.rest ++ c ∷ []) (both (p r.first) (every p r.rest) r.all).0
-      ∙ every_more p (r.first ∷ r.rest) c ∙ rw r.all
+  run_len c s e =
+      rw e (sym (goes_on c [] s (rw e)))
+      ∙ sym (begun c s (λ z. true≢false (sym e ∙ ap p z ∙ of-class.no_end)) (λ z. true≢false (sym e ∙ ap p z ∙ of-class.no_space)))
 
-  no_end : (c : ℕ) → p c ≡ true → c ≡ 10 → ⊥
-  no_end c e z = true≢false (sym e ∙ ap p z ∙ of-class.no_end)
+-- A byte that begins no run: a token by itself, or with the next byte.
+module _ (c : ℕ) (letters : letter c ≡ false) (digits : digit c ≡ false) where
+  no_third : (d e : ℕ) → one_token (c ∷ d ∷ e ∷ []) ≡ false
+  unfolding one_token every same
+  no_third d e = rw (letters, digits) (simp and-false)
 
-  -- Its first byte.
-  pub run_first : (c : ℕ) → at < length text → c ≡ get_or text at 0 → c < 256 → p (get_or text at 0) ≡ true → Run p text at (256 + c) (at + 1)
-  unfolding every
-  run_first c h q l f =
-      let e : p c ≡ true = ap p q ∙ f in
-      record {
-        first = c;
-        rest = [];
-        all = rw e;
-        number = refl;
-        small = omega arith;
-        along = along_first text at c h q (no_end c e) (λ z. true≢false (sym e ∙ ap p z ∙ of-class.no_space));
-      }
+  in_line : (d : ℕ) → one_token (c ∷ d ∷ []) ≡ true → d ≡ 10 → ⊥
+  unfolding one_token every same
+  in_line d o z = true≢false (sym o ∙ rw (z, letters, digits) (simp and-false))
 
-  -- The byte c at i, with the test whether the class has it: the run ends there, or goes on.
-  module _ (token i c : ℕ) (inside : Bool) (r : Run p text at token i) (q : c ≡ get_or text i 0) (t : inside ≡ p c) where
-    pub run_stops : not inside ≡ true → record { token = token; behind = i } ≡ scanned text at
-    run_stops n =
-        token_ends text at r.first r.rest i r.along (λ h. goes_on token i (get_or text i 0) r ∙ ap p (sym q) ∙ sym t ∙ not-true inside n) token r.number
+  one_byte : (s : List ℕ) → ((d : ℕ) (r : List ℕ) → s ≡ d ∷ r → one_token (c ∷ d ∷ []) ≡ false) → length (first (tokens_after (c ∷ []) (before 10 s))) ≡ 1
+  unfolding before first tokens_after ended going
+  one_byte [] f = refl
+  one_byte (d ∷ r) f = go (eqb d 10)
+    where
+      go : (n : Bool) → length (first (tokens_after (c ∷ []) (cond n [] (d ∷ before 10 r)))) ≡ 1
+      go true = refl
+      go false = rw (f d r refl) refl
 
-    pub run_more : (next : ℕ) → i < length text → c < 256 → not inside ≡ false → next ≡ grown token c → next < 2 ^ 41 → Run p text at next (i + 1)
-    run_more next h l n g s =
-        let e : p c ≡ true = sym t ∙ not-false inside n in
-        record {
-          first = r.first;
-          rest = r.rest ++ c ∷ [];
-          all = every_more p (r.first ∷ r.rest) c ∙ rw (r.all, e);
-          number = g ∙ ap (λ (x : ℕ). grown x c) r.number ∙ sym (packed_more 1 (r.first ∷ r.rest) c);
-          small = s;
-          along = along_more text i c h q (no_end c e) at (r.first ∷ r.rest) r.along (goes_on token i c r ∙ e);
-        }
+  behind_two : (d : ℕ) (s : List ℕ) → length (first (tokens_after (c ∷ d ∷ []) (before 10 s))) ≡ 2
+  unfolding before first tokens_after ended going
+  behind_two d [] = refl
+  behind_two d (e ∷ r) = go (eqb e 10)
+    where
+      go : (n : Bool) → length (first (tokens_after (c ∷ d ∷ []) (cond n [] (e ∷ before 10 r)))) ≡ 2
+      go true = refl
+      go false = rw (no_third d e) refl
 
-  -- The text is over.
-  pub run_over : (token i : ℕ) → Run p text at token i → length text ≤ i → record { token = token; behind = i } ≡ scanned text at
-  run_over token i r past = token_ends text at r.first r.rest i r.along (λ h. absurd (omega arith)) token r.number
+  two_bytes : (d : ℕ) (s : List ℕ) → one_token (c ∷ d ∷ []) ≡ true → length (first (tokens_after (c ∷ []) (before 10 (d ∷ s)))) ≡ 2
+  unfolding before tokens_after going under
+  two_bytes d s o = rw (ne_eqb d 10 (in_line d o), o) (behind_two d s)
+
+  -- Whether the sign has a second byte.
+  pub sign_len : (s : List ℕ) → (c ≡ 10 → ⊥) → (c ≡ code " " → ⊥)
+      → ◌≡◌ {A = ℕ} (cond (starts_with eqb (c ∷ s) (bytes ":=") || starts_with eqb (c ∷ s) (bytes "<<") || starts_with eqb (c ∷ s) (bytes ">>")) 2 1) (token_len (c ∷ s))
+  unfolding one_token every same
+  sign_len [] n b = none ∙ sym (one_byte [] (λ d r z. absurd (nil z))) ∙ sym (begun c [] n b)
+    where
+      nil : {d : ℕ} {r : List ℕ} → [] ≡ d ∷ r → ⊥
+      nil z = omega (arith, ap length z)
+
+      none : ◌≡◌ {A = ℕ} (cond (starts_with eqb (c ∷ []) (bytes ":=") || starts_with eqb (c ∷ []) (bytes "<<") || starts_with eqb (c ∷ []) (bytes ">>")) 2 1) 1
+      none = simp and-false
+  sign_len (d ∷ s) n b = ap (λ (t : Bool). cond {A = ℕ} t 2 1) (sym pair_token) ∙ go (one_token (c ∷ d ∷ [])) refl ∙ sym (begun c (d ∷ s) n b)
+    where
+      pair_token : one_token (c ∷ d ∷ []) ≡ (starts_with eqb (c ∷ d ∷ s) (bytes ":=") || starts_with eqb (c ∷ d ∷ s) (bytes "<<") || starts_with eqb (c ∷ d ∷ s) (bytes ">>"))
+      pair_token = rw (letters, digits, swapped 58 c, swapped 60 c, swapped 62 c, swapped 61 d, swapped 60 d, swapped 62 d) refl
+
+      go : (o : Bool) → one_token (c ∷ d ∷ []) ≡ o → ◌≡◌ {A = ℕ} (cond o 2 1) (length (first (tokens_after (c ∷ []) (before 10 (d ∷ s)))))
+      go true e = sym (two_bytes d s e)
+      go false e = sym (one_byte (d ∷ s) (λ x r z. ap (λ (y : ℕ). one_token (c ∷ y ∷ [])) (sym (ap (λ (u : List ℕ). get_or u 0 0) z)) ∙ e))
+
+-- The length as `position` finds the first byte that is not of the class.
+pub stops : (p : ℕ → Bool) (s : List ℕ) (stop : Option ℕ)
+    → stop ≡ cond (ltb (position_or_len (λ c. not (p c)) s) (length s)) (Some (position_or_len (λ c. not (p c)) s)) None
+    → unwrap_or stop (length s) ≡ prefix_len p s
+stops p s stop e = rw e (go (ltb (prefix_len (λ c. not (not (p c))) s) (length s)) refl) ∙ same_len s
+  where
+    same_len : (s : List ℕ) → prefix_len (λ c. not (not (p c))) s ≡ prefix_len p s
+    same_len [] = refl
+    same_len (c ∷ s) = rw (not-not (p c), same_len s) refl
+
+    within : (s : List ℕ) → prefix_len (λ c. not (not (p c))) s ≤ length s
+    within [] = omega arith
+    within (c ∷ s) = one (not (not (p c))) (within s)
+      where
+        one : (b : Bool) → prefix_len (λ c. not (not (p c))) s ≤ length s → cond b (1 + prefix_len (λ c. not (not (p c))) s) 0 ≤ suc (length s)
+        one true h = omega arith
+        one false h = omega arith
+
+    go : (b : Bool) → ltb (prefix_len (λ c. not (not (p c))) s) (length s) ≡ b
+        → unwrap_or (cond b (Some (prefix_len (λ c. not (not (p c))) s)) None) (length s) ≡ prefix_len (λ c. not (not (p c))) s
+    go true e = refl
+    go false e = let h = ltb-false (prefix_len (λ c. not (not (p c))) s) (length s) e in let w = within s in omega arith
+
+-- What stands first in a text.
+begins : (rest : List ℕ) (c : ℕ) → Some c ≡ slice_get rest 0 → (s : List ℕ) × (rest ≡ c ∷ s)
+begins [] c e = let o : ◌≡◌ {A = ℕ} 0 1 = cc in absurd (omega arith)
+begins (x ∷ s) c e = let v : x ≡ c = cc in (s, ap (λ (y : ℕ). y ∷ s) v)
+
+-- The length by what stands first: nothing, the byte 10, a byte of a class, a sign.
+pub nothing_long : (rest : List ℕ) → None ≡ slice_get rest 0 → 0 ≡ token_len rest
+unfolding first tokens_after ended before
+nothing_long [] e = refl
+nothing_long (x ∷ s) e = let o : ◌≡◌ {A = ℕ} 0 1 = cc in absurd (omega arith)
+
+end : (s : List ℕ) → 0 ≡ token_len (10 ∷ s)
+unfolding first tokens_after ended before
+end s = refl
+
+module _ (rest : List ℕ) (c : ℕ) (e : Some c ≡ slice_get rest 0) where
+  b : (s : List ℕ) × (rest ≡ c ∷ s)
+  b = begins rest c e
+
+  pub end_long : c ≡ 10 → 0 ≡ token_len rest
+  end_long z = end b.0 ∙ ap (λ (x : ℕ). token_len (x ∷ b.0)) (sym z) ∙ ap token_len (sym b.1)
+
+  pub run_long : (p : ℕ → Bool) → Class p → (stop : Option ℕ) (n : ℕ) → p c ≡ true
+      → stop ≡ cond (ltb (position_or_len (λ x. not (p x)) rest) (length rest)) (Some (position_or_len (λ x. not (p x)) rest)) None
+      → n ≡ unwrap_or stop (length rest) → n ≡ token_len rest
+  run_long p of-class stop n h q r =
+      r ∙ stops p rest stop q ∙ ap (prefix_len p) b.1 ∙ run_len p of-class c b.0 h ∙ ap token_len (sym b.1)
+
+  pub sign_long : letter c ≡ false → digit c ≡ false → (c ≡ 10 → ⊥) → (0 < length rest → get_or rest 0 0 ≡ code " " → ⊥) → (t : Bool)
+      → t ≡ (starts_with eqb rest (bytes ":=") || starts_with eqb rest (bytes "<<") || starts_with eqb rest (bytes ">>")) → ◌≡◌ {A = ℕ} (cond t 2 1) (token_len rest)
+  sign_long l d n f t q =
+      let g : get_or rest 0 0 ≡ c = ap (λ (u : List ℕ). get_or u 0 0) b.1 in
+      let v = sign_len c l d b.0 n (λ z. f (omega (arith, ap length b.1)) (g ∙ z)) in
+      ap (λ (x : Bool). cond {A = ℕ} x 2 1) q ∙ subst (λ (u : List ℕ). ◌≡◌ {A = ℕ} (cond (starts_with eqb u (bytes ":=") || starts_with eqb u (bytes "<<") || starts_with eqb u (bytes ">>")) 2 1) (token_len u)) (sym b.1) v

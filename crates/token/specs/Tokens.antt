@@ -1,6 +1,6 @@
 -- Bytes to tokens (01, Micro text and images). A token is its bytes: a run of letters, a run of digits, `:=`, `<<` and `>>` are
 -- one token each, any other byte is one by itself, and spaces only stand around tokens.
-use Rattle.std.specs.Prelude.{ℕ, suc, Bool, true, false, cond, ◌&&◌, ◌||◌, List, [], ◌∷◌, ◌++◌, leb, eqb}
+use Rattle.std.specs.Prelude.{ℕ, Bool, true, false, cond, ◌&&◌, ◌||◌, List, [], ◌∷◌, ◌++◌, leb, eqb}
 use Prim.Native.Char.{code}
 use Rattle.text.specs.Text.{same, ◌is◌}
 use Rattle.text.specs.Decimal.{digit}
@@ -45,8 +45,3 @@ tokens_after t (c ∷ s) = going (one_token (t ++ c ∷ [])) t (tokens_after (un
 
 abbrev pub tokens : List ℕ → List Token
 tokens s = tokens_after [] s
-
--- The index of a token in a list of names; where it is none of them, the length of the list.
-unfoldable pub index : Token → List Token → ℕ
-index t [] = 0
-index t (x ∷ xs) = cond (same t x) 0 (suc (index t xs))

@@ -1,55 +1,72 @@
-// Tokens: the next one of a line of micro text, as a number, with the span of its bytes.
+// Tokens: the next one of a line of micro text, as a number, with what is behind its bytes.
 #![tactic(auto)]
 
-ghost use Rattle.std.specs.Prelude.{◌≡◌, ◌<◌, ◌^◌, true, length, get_or};
-ghost use Rattle.text.specs.Decimal.{digit};
-ghost use Rattle.token.specs.Tokens.{letter};
-ghost use Rattle.token.specs.Code.Next.{grown as grown_by, start_at, scanned};
-ghost use Rattle.token.specs.Code.Numbers.{decimal_of, BeginsSign};
+ghost use Rattle.std.specs.Prelude.{◌≡◌, ◌<◌, length, get_or};
+ghost use Rattle.token.specs.Code.Next.{grown as grown_by, told, start_at, scanned, token_len};
+ghost use Rattle.token.specs.Code.Numbers.{decimal_of};
 
-// A token as a number, and what is behind its bytes. Two numbers, since three would go by way of memory at each token.
-#[derive(Clone, Copy)]
-pub struct Scanned {
-    pub token: u64,
-    pub behind: usize,
+// A token: its bytes behind a 1, as the digits of one number to the base 256. The fifth byte is the last that counts.
+#[derive(Clone, Copy, Debug, PartialEq, Eq)]
+pub struct Token(pub u64);
+
+// The words and signs of micro text. A constant can call no function, so each is its number.
+impl Token {
+    pub const CP: Token = Token(0x1_6370);
+    pub const AC: Token = Token(0x1_6163);
+    pub const PP: Token = Token(0x1_7070);
+    pub const RI: Token = Token(0x1_7269);
+    pub const RT: Token = Token(0x1_7274);
+    pub const MASC: Token = Token(0x1_6d61_7363);
+    pub const REM: Token = Token(0x172_656d);
+    pub const RDM: Token = Token(0x172_646d);
+    pub const ALU: Token = Token(0x161_6c75);
+    pub const RD: Token = Token(0x1_7264);
+    pub const WR: Token = Token(0x1_7772);
+    pub const GOTO: Token = Token(0x1_676f_746f);
+    pub const IF: Token = Token(0x1_6966);
+    pub const THEN: Token = Token(0x1_7468_656e);
+    pub const N: Token = Token(0x16e);
+    pub const Z: Token = Token(0x17a);
+    pub const ASSIGN: Token = Token(0x1_3a3d);
+    pub const LEFT: Token = Token(0x1_3c3c);
+    pub const RIGHT: Token = Token(0x1_3e3e);
+    pub const PLUS: Token = Token(0x12b);
+    pub const MINUS: Token = Token(0x12d);
+    pub const AND: Token = Token(0x15e);
+    pub const ONE: Token = Token(0x131);
+    pub const OPEN: Token = Token(0x128);
+    pub const CLOSE: Token = Token(0x129);
+    pub const COLON: Token = Token(0x13a);
+    pub const SEMICOLON: Token = Token(0x13b);
 }
 
-// Tokens as numbers: their bytes behind a 1. NONE is no token.
-const NONE: u64 = 0x1;
-
-const ASSIGN: u64 = 0x1_3a3d;
-
-const LEFT: u64 = 0x1_3c3c;
-
-const RIGHT: u64 = 0x1_3e3e;
-
-fn wide(c: u8) -> u64
-    ensures { (result ≡ c) × (result < 256) }
-{
-    c as u64
-}
-
-pub fn is_letter(c: u64) -> bool
-    ensures { result ≡ letter c }
-{
-    (97 <= c) & (c <= 122)
-}
-
-pub fn is_digit(c: u64) -> bool
-    ensures { result ≡ digit c }
-{
-    (48 <= c) & (c <= 57)
-}
-
-// A token's number with one byte more; the fifth byte is the last that counts.
-fn grown(token: u64, c: u64) -> u64
-    requires { (token < 2 ^ 41) × (c < 256) }
-    ensures { (result ≡ grown_by token c) × (result < 2 ^ 41) }
-{
-    if token < 0x2_0000_0000 {
-        return token * 256 + c;
+impl Token {
+    // With one byte more.
+    fn grown(self, c: u8) -> Token
+        ensures { result.0 ≡ grown_by self.0 c }
+    {
+        if self.0 < 0x2_0000_0000 {
+            return Token(self.0 * 256 + c as u64);
+        }
+        self
     }
-    token
+
+    // The token with these bytes; no bytes are none.
+    fn of(bytes: &[u8]) -> Option<Token>
+        ensures { result ≡ told bytes.now }
+    {
+        if bytes.is_empty() {
+            return None;
+        }
+        Some(bytes.iter().fold(Token(1), |token, c| token.grown(*c)))
+    }
+}
+
+// The next token of a line, if there is one, and what is behind its bytes.
+#[derive(Clone, Copy, Debug, PartialEq, Eq)]
+pub struct Scanned {
+    pub token: Option<Token>,
+    pub behind: usize,
 }
 
 // Where the next token begins: the first byte from `at` on that is no space. From there to what is behind it are the token's bytes.
@@ -59,72 +76,35 @@ pub fn start(text: &[u8], at: usize) -> usize
     ensures same { scanned text.now result ≡ scanned text.now at }
     ensures no_space { result < length text.now → get_or text.now result 0 ≡ 32 → ⊥ }
 {
-    let mut i = at;
-    while i < text.len() {
-        if text[i] != 32 {
+    for i in at..text.len() {
+        if text[i] != b' ' {
             return i;
         }
-        i += 1;
     }
-    i
+    at.max(text.len())
 }
 
-// The run of letters that begins at `at`.
-fn word_from(text: &[u8], at: usize) -> Scanned
-    requires { (at < length text.now) × (letter (get_or text.now at 0) ≡ true) }
-    ensures { result ≡ scanned text.now at }
+// How many bytes the token has that begins `rest`: a run of letters, a run of digits, or a sign. A line's end begins none.
+fn token_len(rest: &[u8]) -> usize
+    requires { 0 < length rest.now → get_or rest.now 0 0 ≡ 32 → ⊥ }
+    ensures { result ≡ token_len rest.now }
 {
-    let mut token = 256 + wide(text[at]);
-    let mut i = at + 1;
-    while i < text.len() {
-        let c = wide(text[i]);
-        if !is_letter(c) {
-            return Scanned { token, behind: i };
-        }
-        token = grown(token, c);
-        i += 1;
+    let Some(c) = rest.first().copied() else {
+        return 0;
+    };
+    if c == b'\n' {
+        return 0;
     }
-    Scanned { token, behind: i }
-}
-
-// The run of digits that begins at `at`.
-fn number_from(text: &[u8], at: usize) -> Scanned
-    requires { (at < length text.now) × (digit (get_or text.now at 0) ≡ true) }
-    ensures { result ≡ scanned text.now at }
-{
-    let mut token = 256 + wide(text[at]);
-    let mut i = at + 1;
-    while i < text.len() {
-        let c = wide(text[i]);
-        if !is_digit(c) {
-            return Scanned { token, behind: i };
-        }
-        token = grown(token, c);
-        i += 1;
+    if c.is_ascii_lowercase() {
+        return rest.iter().position(|c| !c.is_ascii_lowercase()).unwrap_or(rest.len());
     }
-    Scanned { token, behind: i }
-}
-
-// The token that any other byte begins: that byte, or `:=`, `<<`, `>>`.
-fn sign_from(text: &[u8], at: usize) -> Scanned
-    requires { (at < length text.now) × BeginsSign (get_or text.now at 0) }
-    ensures { result ≡ scanned text.now at }
-{
-    let c = wide(text[at]);
-    let behind = at + 1;
-    if behind < text.len() {
-        let token = 65536 + c * 256 + wide(text[behind]);
-        if (token == ASSIGN) | (token == LEFT) | (token == RIGHT) {
-            return Scanned {
-                token,
-                behind: behind + 1,
-            };
-        }
+    if c.is_ascii_digit() {
+        return rest.iter().position(|c| !c.is_ascii_digit()).unwrap_or(rest.len());
     }
-    Scanned {
-        token: 256 + c,
-        behind,
+    if rest.starts_with(b":=") || rest.starts_with(b"<<") || rest.starts_with(b">>") {
+        return 2;
     }
+    1
 }
 
 // The next token of the line that goes on at `at`.
@@ -132,39 +112,26 @@ pub fn next_token(text: &[u8], at: usize) -> Scanned
     ensures { result ≡ scanned text.now at }
 {
     let i = start(text, at);
-    if text.len() <= i {
-        return Scanned {
-            token: NONE,
-            behind: i,
-        };
-    }
-    let c = wide(text[i]);
-    if c == 10 {
-        return Scanned {
-            token: NONE,
-            behind: i,
-        };
-    }
-    if is_letter(c) {
-        return word_from(text, i);
-    }
-    if is_digit(c) {
-        return number_from(text, i);
-    }
-    sign_from(text, i)
+    let Some(rest) = text.get(i..) else {
+        return Scanned { token: None, behind: i };
+    };
+    let token = &rest[..token_len(rest)];
+    Scanned { token: Token::of(token), behind: i + token.len() }
 }
 
-// The number that a token of one or two digits with no leading zero spells, or 100.
-pub fn decimal(token: u64) -> u32
-    ensures { result ≡ decimal_of token }
+// The number that a token of one or two digits with no leading zero spells.
+#[tactic(auto, using(std::proofs::lemmas::Bool::Decides::nat_tests), unfolding(crate::specs::Code::Numbers::decimal_of))]
+pub fn decimal(token: Token) -> Option<u32>
+    ensures { result ≡ decimal_of token.0 }
 {
-    if (0x130 <= token) & (token <= 0x139) {
-        return (token - 0x130) as u32;
+    let low = (token.0 % 256) as u8;
+    if !low.is_ascii_digit() {
+        return None;
     }
-    let high = token / 256;
-    let low = token % 256;
-    if (0x131 <= high) & (high <= 0x139) & ((48 <= low) & (low <= 57)) {
-        return ((high - 0x130) * 10 + (low - 48)) as u32;
+    let low = (low - b'0') as u32;
+    match token.0 / 256 {
+        0x1 => Some(low),
+        high @ 0x131..=0x139 => Some((high - 0x130) as u32 * 10 + low),
+        _ => None,
     }
-    100
 }

@@ -7,6 +7,7 @@ use mathlib.Core.List.{List, [], ◌∷◌, ◌++◌, map}
 use borrow.Author.Tests.{not-true}
 use lib.Dec.{eqb}
 use Rattle.token.specs.Tokens.{Token, letter, every, one_token, under, ended, going, tokens_after, tokens, started_by}
+use Rattle.std.specs.Prelude.{Option}
 use Rattle.part.specs.Grammar.{part}
 use Rattle.microtext.specs.Line.{cut, divided, last_part, parts}
 use Rattle.part.specs.declared.Part.{Part}
@@ -140,7 +141,7 @@ parts_all : (ps : List (List Token)) → parts (ps ++ [] ∷ []) ≡ map part ps
 unfolding parts last_part
 parts_all [] = refl
 parts_all (p ∷ []) = refl
-parts_all (p ∷ q ∷ ps) = ap (λ (x : List Part). part p ∷ x) (parts_all (q ∷ ps))
+parts_all (p ∷ q ∷ ps) = ap (λ (x : List (Option Part)). part p ∷ x) (parts_all (q ∷ ps))
 
 pub parts_back : (ps : List (List ℕ)) → All (λ (p : List ℕ). undivided (tokens p) ≡ true) ps → parts (divided (tokens (spaced ps))) ≡ map part (map tokens ps)
 parts_back ps a = ap (λ (x : List Token). parts (divided x)) (tokens_spread ps) ∙ ap parts (divided_spread ps a) ∙ parts_all (map tokens ps)

@@ -14,7 +14,9 @@ use Rattle.microword.proofs.Laws.{fields_within}
 use Rattle.microtext.specs.Listing as listing
 use Rattle.microtext.specs.Listing.{up_to, shown}
 use Rattle.word.proofs.Tests.{both, All}
-use Rattle.microassembler.specs.Assembled.{laid, onward, filled, zero_words, assembled}
+use Rattle.std.specs.Prelude.{Ok}
+use Rattle.microtext.specs.Onward.{onward}
+use Rattle.microassembler.specs.Assembled.{filled, zero_words, assembled}
 use Rattle.microassembler.proofs.Filled.{by_lines}
 use Rattle.text.specs.Text.{prefixed, lines}
 use Rattle.text.specs.Decimal.{short_decimal}
@@ -89,7 +91,7 @@ listed_short (w ∷ ws) k h =
 abbrev pub AllGood : List ℕ → Type 0
 AllGood ws = All (λ (w : ℕ). bad_word w ≡ false) ws
 
-filled_listed : (ws : List ℕ) (k : ℕ) (us : List ℕ) → k + length ws ≤ 64 → AllGood ws → filled k us (each k ws) ≡ laid (sets us k (map normal_form ws))
+filled_listed : (ws : List ℕ) (k : ℕ) (us : List ℕ) → k + length ws ≤ 64 → AllGood ws → filled k us (each k ws) ≡ Ok (sets us k (map normal_form ws))
 unfolding filled each onward
 filled_listed [] k us h a = refl
 filled_listed (w ∷ ws) k us h a = rw (line_back k w (omega arith) a.0) (filled_listed ws (suc k) (set us k (normal_form w)) (omega arith) a.1)
@@ -152,7 +154,7 @@ shown_normal (w ∷ ws) = go (shown ws) (shown_normal ws)
         rw (n, ← h)
 
 -- Assembling a listing gives the normal forms.
-filled_back : (ws : List ℕ) → length ws ≡ 64 → AllGood ws → filled 0 zero_words (lines (listing.listing ws)) ≡ laid (map normal_form ws)
+filled_back : (ws : List ℕ) → length ws ≡ 64 → AllGood ws → filled 0 zero_words (lines (listing.listing ws)) ≡ Ok (map normal_form ws)
 filled_back ws h a =
     let l = shown_few ws in
     let m : length (map normal_form (shown ws)) ≡ length (shown ws) = length-map (shown ws) normal_form in
@@ -160,7 +162,7 @@ filled_back ws h a =
     let g : 64 - length (shown ws) ≡ length ws - length (shown ws) = omega arith in
     ap (filled 0 zero_words) (lines_listed (shown ws) 0 (omega arith))
     ∙ filled_listed (shown ws) 0 zero_words (omega arith) (shown_good ws a)
-    ∙ ap laid
+    ∙ ap (λ (ws : List ℕ). Ok ws)
     (sets-eq (map normal_form (shown ws)) zero_words 0 (omega arith)
     ∙ ap (λ (k : ℕ). map normal_form (shown ws) ++ drop k zero_words) n
     ∙ ap (λ (x : List ℕ). map normal_form (shown ws) ++ x) (drop_zeros (length (shown ws)) 64 ∙ ap zeros g)
@@ -168,5 +170,5 @@ filled_back ws h a =
 
 pub listing_back : (ws store : List ℕ) → length ws ≡ 64 → AllGood ws → length store ≡ 64 → assembled (listing.listing ws) store ≡ record { answer = 0; store = map normal_form ws }
 listing_back ws store h a k =
-    by_lines (listing.listing ws) store (ap not (eq-eqb (length store) 64 k)) (laid (map normal_form ws))
+    by_lines (listing.listing ws) store (ap not (eq-eqb (length store) 64 k)) (Ok (map normal_form ws))
     (omega (arith, listed_short (shown ws) 0 (omega (arith, shown_few ws)), shown_few ws)) (filled_back ws h a)

@@ -7,17 +7,18 @@ use native.Mathlib.Omega.{arith}
 use borrow.Author.Tests.{lt-ltb, lt-leb, eqb-true, eqb-false, eq-eqb}
 use lib.Dec.{leb, ltb, eqb}
 use lib.ListN.{length}
+use Rattle.std.specs.Prelude.{Option, Some, None, Ok, is_some}
+use Rattle.std.specs.Option.{option_eq, unwrap_or}
 use Rattle.microword.specs.Microword.{fields_of, word_of, bad_word, idle, binary, normal_fields, normal_form}
 use Rattle.microword.specs.declared.Fields.{Fields}
 use Rattle.microword.proofs.Laws.{fields_within}
 use Rattle.microword.specs.Code.Within.{Within}
 use Rattle.token.specs.Tokens.{Token, tokens}
 use Rattle.part.specs.Grammar.{part}
-use Rattle.microtext.specs.Line.{some_foreign, add, nothing, given, clash, settled, meaning, divided, parts, behind_number, numbered, line, has_jump, has_transfer}
+use Rattle.microtext.specs.Line.{add, nothing, clash, settled, meaning, divided, parts, behind_number, numbered, line, has_jump, has_transfer}
 use Rattle.microtext.specs.Listing as listing
 use Rattle.part.specs.declared.Part.{Part}
 use Rattle.part.specs.declared.Part.TheVariants.{Operation, Transfer, Jump}
-use Rattle.microtext.specs.declared.Meaning.TheVariants.{Word}
 use Rattle.word.proofs.Tests.{neither, All}
 use Rattle.text.specs.Text.{bytes, same}
 use Rattle.text.specs.Decimal.{from_decimal, short_decimal}
@@ -30,9 +31,9 @@ when true x = x ∷ []
 when false x = []
 
 -- What an operation, a transfer and a jump give, each there or not.
-all_given : (o t j : Bool) (to f a b r v q k : ℕ)
-    → given nothing (when o (Operation to f a b) ++ (when t (Transfer r v) ++ when j (Jump q k)))
-    ≡ record {
+all_given : (o t j : Bool) (to : Option ℕ) (f a b r v q k : ℕ)
+    → meaning nothing (when o (Some (Operation to f a b)) ++ (when t (Some (Transfer r v)) ++ when j (Some (Jump q k))))
+    ≡ settled (record {
       far = j && leb 64 k;
       twice = false;
       operation = o;
@@ -40,16 +41,16 @@ all_given : (o t j : Bool) (to f a b r v q k : ℕ)
           record {
             a = cond o a 0;
             b = cond o b 0;
-            s = cond o (cond (ltb to 8) to 0) 0;
-            hs = cond o (cond (ltb to 8) 1 0) 0;
+            s = cond o (unwrap_or to 0) 0;
+            hs = cond o (cond (is_some to) 1 0) 0;
             f = cond o f 0;
             rd = cond t r 0;
             wr = cond t v 0;
             sq = cond j q 0;
             end = cond j k 0;
           };
-    }
-unfolding given add
+    })
+unfolding meaning add
 all_given true true true to f a b r v q k = refl
 all_given true true false to f a b r v q k = refl
 all_given true false true to f a b r v q k = refl
@@ -72,23 +73,23 @@ bit : (n : ℕ) → n < 2 → eqb n 0 ≡ false → n ≡ 1
 bit n h e = let d = eqb-false n 0 e in omega arith
 
 module _ (m : Fields) (h : Within m) (apart : (eqb m.rd 1 && eqb m.wr 1) ≡ false) where
-  stored_s : cond (operates m) (cond (ltb (target m) 8) (target m) 0) 0 ≡ cond (eqb m.hs 0) 0 m.s
+  stored_s : cond (operates m) (unwrap_or (target m) 0) 0 ≡ cond (eqb m.hs 0) 0 m.s
   unfolding idle
   stored_s = go (eqb m.hs 0) (eqb m.sq 0 || eqb m.sq 3)
     where
-      go : (z q : Bool) → cond (not (z && q)) (cond (ltb (cond z 8 m.s) 8) (cond z 8 m.s) 0) 0 ≡ cond z 0 m.s
+      go : (z q : Bool) → cond (not (z && q)) (unwrap_or (cond z None (Some m.s)) 0) 0 ≡ cond z 0 m.s
       go true true = refl
       go true false = refl
-      go false q = rw (lt-ltb m.s 8 h.s)
+      go false q = refl
 
-  stored_hs : cond (operates m) (cond (ltb (target m) 8) 1 0) 0 ≡ m.hs
+  stored_hs : cond (operates m) (cond (is_some (target m)) 1 0) 0 ≡ m.hs
   unfolding idle
   stored_hs = go (eqb m.hs 0) (eqb m.sq 0 || eqb m.sq 3) refl
     where
-      go : (z q : Bool) → eqb m.hs 0 ≡ z → cond (not (z && q)) (cond (ltb (cond z 8 m.s) 8) 1 0) 0 ≡ m.hs
+      go : (z q : Bool) → eqb m.hs 0 ≡ z → cond (not (z && q)) (cond (is_some (cond z None (Some m.s))) 1 0) 0 ≡ m.hs
       go true true e = sym (eqb-true m.hs 0 e)
       go true false e = sym (eqb-true m.hs 0 e)
-      go false q e = rw (lt-ltb m.s 8 h.s) (sym (bit m.hs h.hs e))
+      go false q e = sym (bit m.hs h.hs e)
 
   stored_b : cond (operates m) (second m.f m.b) 0 ≡ cond (idle m || not (binary m)) 0 m.b
   unfolding binary
@@ -129,14 +130,18 @@ module _ (m : Fields) (h : Within m) (apart : (eqb m.rd 1 && eqb m.wr 1) ≡ fal
       go true e = sym (eqb-true m.sq 0 e)
       go false e = refl
 
-  -- The parts of a word give its normal fields.
-  pub normal_given : given nothing (when (operates m) (Operation (target m) m.f m.a (second m.f m.b))
-      ++ (when (has_transfer m) (Transfer (cond (eqb m.rd 1) 1 0) (cond (eqb m.rd 1) 0 1)) ++ when (has_jump m) (Jump m.sq m.end)))
-      ≡ record { far = has_jump m && leb 64 m.end; twice = false; operation = operates m; fields = normal_fields m }
-  unfolding normal_fields
+  -- The parts of a word, each there or not.
+  pub word_parts : List (Option Part)
+  word_parts =
+      when (operates m) (Some (Operation (target m) m.f m.a (second m.f m.b)))
+      ++ (when (has_transfer m) (Some (Transfer (cond (eqb m.rd 1) 1 0) (cond (eqb m.rd 1) 0 1))) ++ when (has_jump m) (Some (Jump m.sq m.end)))
+
+  -- They give its normal fields.
+  pub normal_given : meaning nothing word_parts ≡ settled (record { far = has_jump m && leb 64 m.end; twice = false; operation = operates m; fields = normal_fields m })
+  unfolding normal_fields word_parts
   normal_given =
       all_given (operates m) (has_transfer m) (has_jump m) (target m) m.f m.a (second m.f m.b) (cond (eqb m.rd 1) 1 0) (cond (eqb m.rd 1) 0 1) m.sq m.end
-      ∙ rw (turned (idle m) m.a, stored_b, stored_s, stored_hs, turned (idle m) m.f, moved_rd, moved_wr, jumped_sq, turned (eqb m.sq 0) m.end)
+      ∙ rw (turned (idle m) m.a, stored_b, stored_s, stored_hs, turned (idle m) m.f, moved_rd, moved_wr, jumped_sq, turned (eqb m.sq 0) m.end) refl
 
   -- They do not clash, and lead nowhere far.
   no_clash : clash (record { far = false; twice = false; operation = operates m; fields = normal_fields m }) ≡ false
@@ -164,7 +169,7 @@ module _ (m : Fields) (h : Within m) (apart : (eqb m.rd 1 && eqb m.wr 1) ≡ fal
       go true = refl
       go false = refl
 
-  settles : settled (record { far = has_jump m && leb 64 m.end; twice = false; operation = operates m; fields = normal_fields m }) ≡ Word (word_of (normal_fields m))
+  settles : settled (record { far = has_jump m && leb 64 m.end; twice = false; operation = operates m; fields = normal_fields m }) ≡ Ok (word_of (normal_fields m))
   unfolding settled
   settles = rw (not_far, no_clash)
 
@@ -183,17 +188,6 @@ map_when false true true x y z = refl
 map_when false true false x y z = refl
 map_when false false true x y z = refl
 map_when false false false x y z = refl
-
-none_foreign : (o t j : Bool) (to f a b r v q k : ℕ) → some_foreign (when o (Operation to f a b) ++ (when t (Transfer r v) ++ when j (Jump q k))) ≡ false
-unfolding some_foreign
-none_foreign true true true to f a b r v q k = refl
-none_foreign true true false to f a b r v q k = refl
-none_foreign true false true to f a b r v q k = refl
-none_foreign true false false to f a b r v q k = refl
-none_foreign false true true to f a b r v q k = refl
-none_foreign false true false to f a b r v q k = refl
-none_foreign false false true to f a b r v q k = refl
-none_foreign false false false to f a b r v q k = refl
 
 -- A property of those that are there.
 each_when : (P : List ℕ → Type 0) (b : Bool) (x : List ℕ) (ps : List (List ℕ)) → (b ≡ true → P x) → All P ps → All P (when b x ++ ps)
@@ -258,30 +252,28 @@ body_tokens k l m =
     ∙ ap₂ (λ (x y : List Token). x ++ y) (number_back k l).token (colon_first (texts m))
 
 -- The parts of a line, read back.
-texts_parts : (m : Fields) → Within m
-    → parts (divided (tokens (spaced (texts m))))
-    ≡ when (operates m) (Operation (target m) m.f m.a (second m.f m.b))
-    ++ (when (has_transfer m) (Transfer (cond (eqb m.rd 1) 1 0) (cond (eqb m.rd 1) 0 1)) ++ when (has_jump m) (Jump m.sq m.end))
-texts_parts m h =
+texts_parts : (m : Fields) (h : Within m) (apart : (eqb m.rd 1 && eqb m.wr 1) ≡ false) → parts (divided (tokens (spaced (texts m)))) ≡ word_parts m h apart
+unfolding word_parts
+texts_parts m h apart =
     parts_back (texts m) (texts_each (λ x. undivided (tokens x) ≡ true) m h (λ x p b. b.one_piece))
     ∙ map_when (operates m) (has_transfer m) (has_jump m) (listing.operation m) (transfer_text m) (listing.jump m)
-    ∙ ap₂ (λ (x y : List Part). x ++ y) (when_same (operates m) (λ e. (operation_back m h.s h.f h.a h.b).reads))
-    (ap₂ (λ (x y : List Part). x ++ y) (when_same (has_transfer m) (λ e. (transfer_back m).reads)) (when_same (has_jump m) (λ e. (jump_back m (there m e) h.sq h.end).reads)))
+    ∙ ap₂ (λ (x y : List (Option Part)). x ++ y) (when_same (operates m) (λ e. (operation_back m h.s h.f h.a h.b).reads))
+    (ap₂ (λ (x y : List (Option Part)). x ++ y) (when_same (has_transfer m) (λ e. (transfer_back m).reads)) (when_same (has_jump m) (λ e. (jump_back m (there m e) h.sq h.end).reads)))
 
-texts_mean : (m : Fields) → Within m → (eqb m.rd 1 && eqb m.wr 1) ≡ false → meaning nothing (parts (divided (tokens (spaced (texts m))))) ≡ Word (word_of (normal_fields m))
-unfolding meaning
-texts_mean m h apart =
-    ap (meaning nothing) (texts_parts m h)
-    ∙ rw (none_foreign (operates m) (has_transfer m) (has_jump m) (target m) m.f m.a (second m.f m.b) (cond (eqb m.rd 1) 1 0) (cond (eqb m.rd 1) 0 1) m.sq m.end, normal_given m h apart)
-    (settles m h apart)
+texts_mean : (m : Fields) → Within m → (eqb m.rd 1 && eqb m.wr 1) ≡ false → meaning nothing (parts (divided (tokens (spaced (texts m))))) ≡ Ok (word_of (normal_fields m))
+texts_mean m h apart = ap (meaning nothing) (texts_parts m h apart) ∙ normal_given m h apart ∙ settles m h apart
+
+-- A line's number is read back.
+number_spelt : (k : ℕ) → k < 64 → option_eq eqb (from_decimal (short_decimal k)) (Some k) ≡ true
+number_spelt k l = rw (number_back k l).value (eq-eqb k k refl)
 
 -- A listed line reads back.
-body_back : (k : ℕ) → k < 64 → (m : Fields) → Within m → (eqb m.rd 1 && eqb m.wr 1) ≡ false → line k (body k m) ≡ Word (word_of (normal_fields m))
+body_back : (k : ℕ) → k < 64 → (m : Fields) → Within m → (eqb m.rd 1 && eqb m.wr 1) ≡ false → line k (body k m) ≡ Ok (word_of (normal_fields m))
 unfolding line numbered behind_number same
 body_back k l m h apart =
-    rw (lt-ltb k 64 l) (ap (numbered k) (body_tokens k l m) ∙ rw (eq-eqb (from_decimal (short_decimal k)) k (number_back k l).value) (texts_mean m h apart))
+    rw (lt-ltb k 64 l) (ap (numbered k) (body_tokens k l m) ∙ rw (number_spelt k l) (texts_mean m h apart))
 
-pub line_back : (k w : ℕ) → k < 64 → bad_word w ≡ false → line k (body k (fields_of w)) ≡ Word (normal_form w)
+pub line_back : (k w : ℕ) → k < 64 → bad_word w ≡ false → line k (body k (fields_of w)) ≡ Ok (normal_form w)
 unfolding normal_form bad_word
 line_back k w l good = body_back k l (fields_of w) (fields_within w) (neither (leb 8388608 w) (eqb (fields_of w).rd 1 && eqb (fields_of w).wr 1) good).1
 

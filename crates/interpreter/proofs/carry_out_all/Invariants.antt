@@ -11,7 +11,7 @@ invariant-loop-stage l =
     record {
       within : l.stage.done ≤ l.n;
       spent : l.stage.cycles ≤ 11 * l.stage.done;
-      same : instructions l.input l.n (state_of l.fn.cpu l.initial.memory l.initial.log) ≡ rest l.n l.stage l.input l.memory l.log;
+      same : instructions l.input l.n (state_of l.fn.cpu l.initial.memory l.initial.log) ≡ rest l.n l.stage l.input l.count l.memory l.log;
     }
 
 abbrev pub decreases-loop-stage : goal.decreases-loop-stage

@@ -10,5 +10,5 @@ loop-done-preserved c =
     let least : c.in-Some.passed.cycles ≤ 11 = paid_below _ _ _ _ c.in-Some.ensures.done in
     record {
       spent = omega arith;
-      same = λ input log. c.loop-done.invariant.same input log ∙ goes_below _ _ _ _ _ c.loop-done-test.true _ _ c.in-Some.ensures.done;
+      same = λ input count log. c.loop-done.invariant.same input count log ∙ goes_below _ _ _ _ _ _ c.loop-done-test.true _ _ c.in-Some.ensures.done;
     }

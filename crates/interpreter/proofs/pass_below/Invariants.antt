@@ -9,5 +9,5 @@ abbrev pub invariant-loop-done : goal.invariant-loop-done
 invariant-loop-done l =
     record {
       spent : l.cycles ≤ 11 * l.done;
-      same : (input log : List ℕ) → rest l.n l.from input l.initial.memory log ≡ rest l.n (record { cpu = record { core = l.core; count = l.from.cpu.count }; done = l.done; cycles = l.cycles }) input l.memory log;
+      same : (input : List ℕ) (count : ℕ) (log : List ℕ) → rest l.n l.fn.from input count l.initial.memory log ≡ rest l.n (record { core = l.core; done = l.done; cycles = l.cycles }) input count l.memory log;
     }

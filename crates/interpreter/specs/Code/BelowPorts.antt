@@ -34,12 +34,12 @@ pub record Plain (acts : List ℕ → State → Turn State) (own : Core) (memory
   pub undone : r ≡ None → later ≡ memory
 
 -- What a run of n instructions comes to from a stage of it on.
-abbrev pub rest : ℕ → Stage → List ℕ → List ℕ → List ℕ → Turned State
-rest n stage input memory log = plus stage.done stage.cycles (instructions input (n - stage.done) (state_of stage.cpu memory log))
+abbrev pub rest : ℕ → Stage → List ℕ → ℕ → List ℕ → List ℕ → Turned State
+rest n stage input count memory log = plus stage.done stage.cycles (instructions input (n - stage.done) (state_in stage.core count memory log))
 
 -- From one stage of n instructions to a later one, the log untouched: the run comes to the same from either on.
 pub record Onward (n : ℕ) (from : Stage) (memory : List ℕ) (to : Stage) (later : List ℕ) : Type 0 where
   pub onward : from.done ≤ to.done
   pub within : to.done ≤ n
   pub spent : to.cycles ≤ 11 * to.done
-  pub same : (input log : List ℕ) → rest n from input memory log ≡ rest n to input later log
+  pub same : (input : List ℕ) (count : ℕ) (log : List ℕ) → rest n from input count memory log ≡ rest n to input count later log

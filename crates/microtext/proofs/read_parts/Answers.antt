@@ -1,11 +1,8 @@
 -- `read_parts` takes the tokens of a line one by one: the loop holds what `Reached` says.
-use mathlib.Core.Path.{ap, ap₂, ◌∙◌}
-use Prim.Native.Nat.{ℕ}
-use lib.ListN.{length}
-use Rattle.text.specs.Text.{behind_line}
-use Rattle.microtext.proofs.Reached.{reached_start, reached_next, reached_end, remaining_less}
-use Rattle.microtext.specs.Reading.{reading}
-use Rattle.microtext.specs.Code.Progress.{concluded}
+use mathlib.Core.Path.{refl, sym, ◌∙◌}
+use Rattle.std.proofs.lemmas.Result.{err_from_is_err_and}
+use Rattle.std.specs.Prelude.{Ok, Err}
+use Rattle.microtext.proofs.Reached.{reached_start, reached_next, reached_fault, remaining_less, line_refused, line_read}
 use Rattle.microtext.proofs.read_parts.Goals as goal
 
 pub loop-next-init : goal.loop-next-init
@@ -14,18 +11,34 @@ loop-next-init c = reached_start c.args.text.now c.args.at c.next_token-next.res
 pub loop-next-smaller : goal.loop-next-smaller
 loop-next-smaller c =
     let l = c.loop-next in
-    remaining_less c.args.text.now c.args.at l.parts l.next c.next_token-next-in-loop-next.result l.invariant c.loop-next-test.true c.next_token-next-in-loop-next.ensures
+    let n = c.next_token-next-in-Some in
+    remaining_less c.args.text.now c.args.at l.parts l.next n.result c.in-Some.token l.invariant c.in-Some.is n.ensures
 
 pub loop-next-preserved : goal.loop-next-preserved
 loop-next-preserved c =
     let l = c.loop-next in
-    reached_next c.args.text.now c.args.at l.parts c.taken-parts.result l.next c.next_token-next-in-loop-next.result l.invariant c.loop-next-test.true
-    c.taken-parts.ensures c.next_token-next-in-loop-next.ensures
+    let n = c.next_token-next-in-Some in
+    reached_next c.args.text.now c.args.at l.parts l.next c.in-Some.token l.invariant c.in-Some.is c.in_ok-parts.parts n.result
+    (sym c.in_ok-parts.was ∙ c.taken.ensures) n.ensures
+
+pub returns-in_err-parts : goal.returns-in_err-parts
+returns-in_err-parts c =
+    let l = c.loop-next in
+    let p = err_from_is_err_and c.from_residual.result c.from_residual.ensures.1 in
+    rw (p.1, p.2)
+    (line_refused c.args.text.now c.args.at _ _
+    (reached_fault c.args.text.now c.args.at l.parts l.next c.in-Some.token l.invariant c.in-Some.is _ (sym c.in_err-parts.was ∙ c.taken.ensures)))
+
+pub returns-in_err-word : goal.returns-in_err-word
+returns-in_err-word c =
+    let l = c.loop-next in
+    let p = err_from_is_err_and c.from_residual-in_err-word.result c.from_residual-in_err-word.ensures.1 in
+    rw (p.1, p.2)
+    (line_read c.args.text.now c.args.at _ l.parts l.next (Err c.in_err-word.field-0.0) l.invariant c.in_default.is
+    (sym c.in_err-word.was ∙ c.concluded.ensures) refl)
 
 pub returns : goal.returns
 returns c =
     let l = c.loop-next in
-    let e = reached_end c.args.text.now c.args.at l.parts l.next l.invariant c.loop-next-test.false in
-    c.as_reading.ensures
-    ∙ ap₂ reading (c.concluded.ensures ∙ ap concluded e.0)
-    (c.behind_line.ensures ∙ ap (λ (n : ℕ). behind_line n (length c.args.text.now)) e.1)
+    line_read c.args.text.now c.args.at c.behind_line.result l.parts l.next (Ok c.in_ok-word.word) l.invariant c.in_default.is
+    (sym c.in_ok-word.was ∙ c.concluded.ensures) c.behind_line.ensures

@@ -1,90 +1,77 @@
 -- Mirrors the code: how far a part has been read, and how a token, as a number, moves it along. It is the grammar taken apart token by token: a part's
 -- tokens taken in turn from the start, then finished, come to what Grammar's `part` says of them (proofs/Laws: `in_turn`).
-use Rattle.std.specs.Prelude.{ℕ, Bool, true, false, cond, ◌&&◌, map, ltb, eqb}
-use Rattle.token.specs.Code.Numbers.{numeral, decimal_of, code_of, position}
+use Rattle.std.specs.Prelude.{ℕ, Bool, true, false, cond, ◌&&◌, Option, Some, None, position, map, eqb}
+use Rattle.std.specs.Option.{option_map}
+use Rattle.token.specs.Code.Numbers.{numeral, decimal_of, code_of}
 use Rattle.part.specs.Grammar.{registers}
 use Rattle.part.specs.declared.Part.{Part}
-use Rattle.part.specs.declared.Part.TheVariants.{Operation, Transfer, Jump, Foreign}
+use Rattle.part.specs.declared.Part.TheVariants.{Operation, Transfer, Jump}
+use Rattle.part.specs.declared.Target.{Target}
 use Rattle.part.specs.declared.Stage.{Stage}
-use Rattle.part.specs.declared.Stage.TheVariants.{Start, Named, Assigned, Opened, Shift, First, Sign, Closing, If, Tested, Then, Goto, Whole, Wrong}
+use Rattle.part.specs.declared.Stage.TheVariants.{Start, Named, Assigned, Opened, Shift, First, Sign, Closing, If, Tested, Then, Goto, Whole}
 
-unfoldable pub register_of : ℕ → ℕ
-register_of t = position t (map (numeral 1) registers)
+unfoldable pub register_of : ℕ → Option ℕ
+register_of t = position (eqb t) (map (numeral 1) registers)
 
-unfoldable pub destination_of : ℕ → ℕ
-destination_of t = cond (ltb (register_of t) 8) (register_of t) (cond (eqb t (code_of "alu")) 8 9)
+unfoldable pub destination_of : ℕ → Option (Option ℕ)
+destination_of t = cond (eqb t (code_of "alu")) (Some None) (option_map (λ r. Some r) (register_of t))
 
 -- Where a formula is whole, a closing bracket may still be wanted.
-unfoldable pub completed : Bool → Part → Stage
-completed bracket p = cond bracket (Closing p) (Whole p)
+unfoldable pub completed : Target → Part → Stage
+completed target p = cond target.bracket (Closing p) (Whole p)
 
 -- How a token moves on from each stage of a part.
-unfoldable pub from_start : ℕ → Stage
+unfoldable pub from_start : ℕ → Option Stage
 from_start t =
-    cond (eqb t (code_of "rd")) (Whole (Transfer 1 0))
-    (cond (eqb t (code_of "wr")) (Whole (Transfer 0 1))
-    (cond (eqb t (code_of "goto")) (Goto 3)
-    (cond (eqb t (code_of "if")) If
-    (cond (ltb (destination_of t) 9) (Named (destination_of t))
-    Wrong))))
+    cond (eqb t (code_of "rd")) (Some (Whole (Transfer 1 0)))
+    (cond (eqb t (code_of "wr")) (Some (Whole (Transfer 0 1)))
+    (cond (eqb t (code_of "goto")) (Some (Goto 3))
+    (cond (eqb t (code_of "if")) (Some If)
+    (option_map (λ to. Named to) (destination_of t)))))
 
-unfoldable pub from_value : Bool → ℕ → ℕ → Stage
-from_value bracket to t =
-    cond (eqb t (code_of "<<")) (Shift bracket to 6)
-    (cond (eqb t (code_of ">>")) (Shift bracket to 7)
-    (cond (ltb (register_of t) 8) (First bracket to (register_of t))
-    Wrong))
+unfoldable pub from_value : Target → ℕ → Option Stage
+from_value target t =
+    cond (eqb t (code_of "<<")) (Some (Shift target 6))
+    (cond (eqb t (code_of ">>")) (Some (Shift target 7))
+    (option_map (λ a. First target a) (register_of t)))
 
-unfoldable pub from_shift : Bool → ℕ → ℕ → ℕ → Stage
-from_shift bracket to f t = cond (ltb (register_of t) 8) (completed bracket (Operation to f (register_of t) 0)) Wrong
+unfoldable pub from_shift : Target → ℕ → ℕ → Option Stage
+from_shift target f t = option_map (λ a. completed target (Operation target.to f a 0)) (register_of t)
 
-unfoldable pub from_first : Bool → ℕ → ℕ → ℕ → Stage
-from_first bracket to a t =
-    cond (eqb t (code_of "+")) (Sign bracket to 3 a)
-    (cond (eqb t (code_of "-")) (Sign bracket to 4 a)
-    (cond (eqb t (code_of "^")) (Sign bracket to 5 a)
-    (cond (bracket && eqb t (code_of ")")) (Whole (Operation to 0 a 0))
-    Wrong)))
+unfoldable pub from_first : Target → ℕ → ℕ → Option Stage
+from_first target a t =
+    cond (eqb t (code_of "+")) (Some (Sign target 3 a))
+    (cond (eqb t (code_of "-")) (Some (Sign target 4 a))
+    (cond (eqb t (code_of "^")) (Some (Sign target 5 a))
+    (cond (target.bracket && eqb t (code_of ")")) (Some (Whole (Operation target.to 0 a 0)))
+    None)))
 
-unfoldable pub from_sign : Bool → ℕ → ℕ → ℕ → ℕ → Stage
-from_sign bracket to f a t =
-    cond (ltb (register_of t) 8) (completed bracket (Operation to f a (register_of t)))
-    (cond (eqb t (code_of "1") && eqb f 3) (completed bracket (Operation to 1 a 0))
-    (cond (eqb t (code_of "1") && eqb f 4) (completed bracket (Operation to 2 a 0))
-    Wrong))
+unfoldable pub from_sign : Target → ℕ → ℕ → ℕ → Option Stage
+from_sign target f a t =
+    cond (eqb t (code_of "1") && eqb f 3) (Some (completed target (Operation target.to 1 a 0)))
+    (cond (eqb t (code_of "1") && eqb f 4) (Some (completed target (Operation target.to 2 a 0)))
+    (option_map (λ b. completed target (Operation target.to f a b)) (register_of t)))
 
-unfoldable pub from_goto : ℕ → ℕ → Stage
-from_goto sq t = cond (ltb (decimal_of t) 100) (Whole (Jump sq (decimal_of t))) Wrong
+unfoldable pub from_goto : ℕ → ℕ → Option Stage
+from_goto sq t = option_map (λ k. Whole (Jump sq k)) (decimal_of t)
 
-unfoldable pub advance : Stage → ℕ → Stage
+unfoldable pub advance : Stage → ℕ → Option Stage
 advance Start t = from_start t
-advance (Named to) t = cond (eqb t (code_of ":=")) (Assigned to) Wrong
-advance (Assigned to) t = cond (eqb t (code_of "(")) (Opened to) (from_value false to t)
-advance (Opened to) t = from_value true to t
-advance (Shift bracket to f) t = from_shift bracket to f t
-advance (First bracket to a) t = from_first bracket to a t
-advance (Sign bracket to f a) t = from_sign bracket to f a t
-advance (Closing p) t = cond (eqb t (code_of ")")) (Whole p) Wrong
-advance If t = cond (eqb t (code_of "n")) (Tested 1) (cond (eqb t (code_of "z")) (Tested 2) Wrong)
-advance (Tested sq) t = cond (eqb t (code_of "then")) (Then sq) Wrong
-advance (Then sq) t = cond (eqb t (code_of "goto")) (Goto sq) Wrong
+advance (Named to) t = cond (eqb t (code_of ":=")) (Some (Assigned to)) None
+advance (Assigned to) t = cond (eqb t (code_of "(")) (Some (Opened to)) (from_value (record { to = to; bracket = false }) t)
+advance (Opened to) t = from_value (record { to = to; bracket = true }) t
+advance (Shift target f) t = from_shift target f t
+advance (First target a) t = from_first target a t
+advance (Sign target f a) t = from_sign target f a t
+advance (Closing p) t = cond (eqb t (code_of ")")) (Some (Whole p)) None
+advance If t = cond (eqb t (code_of "n")) (Some (Tested 1)) (cond (eqb t (code_of "z")) (Some (Tested 2)) None)
+advance (Tested sq) t = cond (eqb t (code_of "then")) (Some (Then sq)) None
+advance (Then sq) t = cond (eqb t (code_of "goto")) (Some (Goto sq)) None
 advance (Goto sq) t = from_goto sq t
-advance (Whole p) t = Wrong
-advance Wrong t = Wrong
+advance (Whole p) t = None
 
 -- The part that ends at a stage.
-unfoldable pub finished : Stage → Part
-finished Start = Foreign
-finished (Named to) = Foreign
-finished (Assigned to) = Foreign
-finished (Opened to) = Foreign
-finished (Shift bracket to f) = Foreign
-finished (First bracket to a) = cond bracket Foreign (Operation to 0 a 0)
-finished (Sign bracket to f a) = Foreign
-finished (Closing p) = Foreign
-finished If = Foreign
-finished (Tested sq) = Foreign
-finished (Then sq) = Foreign
-finished (Goto sq) = Foreign
-finished (Whole p) = p
-finished Wrong = Foreign
+unfoldable pub finished : Stage → Option Part
+finished (First target a) = cond target.bracket None (Some (Operation target.to 0 a 0))
+finished (Whole p) = Some p
+finished stage = None

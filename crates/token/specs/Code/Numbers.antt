@@ -1,5 +1,5 @@
 -- Mirrors the code: the numbers that it compares tokens with, the numbers of a line's tokens, a name and a decimal by their numbers, and what a sign begins with.
-use Rattle.std.specs.Prelude.{ℕ, suc, ◌+◌, ◌-◌, ◌*◌, ◌/◌, ◌%◌, ◌≡◌, false, cond, ◌&&◌, List, [], ◌∷◌, map, leb, eqb}
+use Rattle.std.specs.Prelude.{ℕ, ◌+◌, ◌-◌, ◌*◌, ◌/◌, ◌%◌, ◌≡◌, false, cond, ◌&&◌, Option, Some, None, List, [], ◌∷◌, map, leb, eqb}
 use Prim.Native.Char.{code}
 use Prim.Native.String.{String}
 use Rattle.text.specs.Text.{bytes, line_at}
@@ -19,21 +19,11 @@ code_of s = numeral 1 (bytes s)
 abbrev pub codes_at : List ℕ → ℕ → List ℕ
 codes_at text at = map packed (tokens (line_at text at))
 
--- The index of a token in a list of names, by their numbers.
-unfoldable pub position : ℕ → List ℕ → ℕ
-position n [] = 0
-position n (x ∷ xs) = cond (eqb n x) 0 (suc (position n xs))
-
--- The number of one or two digits with no leading zero, or 100, from a token's number.
-unfoldable pub decimal_of : ℕ → ℕ
+-- The number of one or two digits with no leading zero, if they are that, from a token's number.
+unfoldable pub decimal_of : ℕ → Option ℕ
 decimal_of t =
-    cond (leb (code_of "0") t && leb t (code_of "9")) (t - code_of "0")
-    (cond (leb (code_of "1") (t / 256) && leb (t / 256) (code_of "9") && digit (t % 256)) ((t / 256 - code_of "0") * 10 + (t % 256 - code "0"))
-    100)
-
--- A byte that begins a token, and no run.
-pub record BeginsSign (c : ℕ) : Type 0 where
-  pub no_letter : letter c ≡ false
-  pub no_digit : digit c ≡ false
-  pub no_space : c ≡ code " " → ⊥
-  pub no_end : c ≡ 10 → ⊥
+    cond (digit (t % 256))
+    (cond (eqb (t / 256) 1) (Some (t % 256 - code "0"))
+    (cond (leb (code_of "1") (t / 256) && leb (t / 256) (code_of "9")) (Some ((t / 256 - code_of "0") * 10 + (t % 256 - code "0")))
+    None))
+    None
