@@ -20,9 +20,10 @@ use Rattle.store.specs.Store.{wrong_store, words, with_word, good_before, first_
 use Rattle.microtext.specs.Listing.{line, lines, shown, listing}
 use Rattle.microline.proofs.Laws.{line_le}
 use Rattle.lister.proofs.Laws.{shown_le}
-use Rattle.console.specs.Text.{refusal, refusal_at}
+use Rattle.console.specs.Text.{refusal}
 use Rattle.word.specs.declared.Line.{Line}
-use Rattle.std.specs.Prelude.{Ok, Err, Some, None}
+use Rattle.std.specs.Prelude.{Ok, Err, Some}
+use Rattle.std.specs.Option.{option_map}
 use Rattle.lister.specs.Answers.{Outcome, number, line_of, seen, refused, done, listed}
 use Rattle.lister.specs.declared.Refusal.{Refusal}
 use Rattle.lister.specs.declared.Refusal.TheVariants.{WrongSize, SmallRoom, BadWord, PastRoom}
@@ -124,30 +125,23 @@ pub told_done : (length : ℕ) (room : List ℕ) → told (seen (Ok length) room
 unfolding told
 told_done length room = refl
 
--- What is told of a refusal: with the line that it names, or its number alone.
-pub told_line : (r : Refusal) (line : Line) (room : List ℕ) → line_of r ≡ Some line → told (seen (Err r) room) ≡ refusal_at (number r) line.0
+-- What is told of a refusal: its number, with the line that it names.
+pub told_refusal : (r : Refusal) (room : List ℕ) → told (seen (Err r) room) ≡ refusal (number r) (option_map (λ (line : Line). line.0) (line_of r))
 unfolding told
-told_line WrongSize line room named = absurd cc
-told_line SmallRoom line room named = absurd cc
-told_line (BadWord bad) line room named = cc
-told_line PastRoom line room named = absurd cc
-
-pub told_alone : (r : Refusal) (room : List ℕ) → line_of r ≡ None → told (seen (Err r) room) ≡ refusal (number r)
-unfolding told
-told_alone WrongSize room none = refl
-told_alone SmallRoom room none = refl
-told_alone (BadWord line) room none = absurd cc
-told_alone PastRoom room none = refl
+told_refusal WrongSize room = refl
+told_refusal SmallRoom room = refl
+told_refusal (BadWord line) room = refl
+told_refusal PastRoom room = refl
 
 -- What is told of a bad word, and of a listing.
-either_told : (bad : Bool) (line : ℕ) (text room : List ℕ) → told (cond bad (refused 4 line room) (done text room)) ≡ cond bad (refusal_at 4 line) text
+either_told : (bad : Bool) (line : ℕ) (text room : List ℕ) → told (cond bad (refused 4 line room) (done text room)) ≡ cond bad (refusal 4 (Some line)) text
 unfolding told
 either_told true line text room = refl
 either_told false line text room = take-append_seam text (drop (length text) room)
 
 -- Whatever the room of 2,816 bytes or more held, the text is the listing, or names the first bad word's line.
 pub printed_is : (input room : List ℕ) → length input ≡ 256 → 2816 ≤ length room
-    → printed input room ≡ cond (ltb (good_before (words_of input)) 64) (refusal_at 4 (good_before (words_of input))) (listing (words_of input))
+    → printed input room ≡ cond (ltb (good_before (words_of input)) 64) (refusal 4 (Some (good_before (words_of input)))) (listing (words_of input))
 unfolding printed listed
 printed_is input room h wide =
     let ws = words_of input in

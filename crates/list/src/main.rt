@@ -23,7 +23,7 @@ fn fill(store: &mut [u32], input: &[u8])
 }
 
 // The text for the lister's answer, which left its listing in the room.
-#[tactic(auto, using(console::proofs::Laws::front, crate::proofs::Laws::told_done, crate::proofs::Laws::told_line, crate::proofs::Laws::told_alone))]
+#[tactic(auto, using(console::proofs::Laws::front, crate::proofs::Laws::told_done, crate::proofs::Laws::told_refusal))]
 fn tell(listed: Result<usize, Refusal>, room: &mut [u8]) -> usize
     requires wide { 512 ≤ lib_length room.old }
     requires within { IfOk listed (λ length. length ≤ lib_length room.old) }
@@ -32,10 +32,10 @@ fn tell(listed: Result<usize, Refusal>, room: &mut [u8]) -> usize
 {
     match listed {
         Ok(length) => length,
-        Err(refusal) => match refusal.line() {
-            Some(line) => console::refusal_at(refusal.into(), line.0 as usize, room),
-            None => console::refusal(refusal.into(), room),
-        },
+        Err(refusal) => {
+            let line = refusal.line().map(|line| usize::from(line.0));
+            console::refusal(refusal.into(), line, room)
+        }
     }
 }
 
@@ -57,11 +57,9 @@ fn text(input: &[u8], room: &mut [u8]) -> usize
 // A read that fails prints nothing.
 fn main(rt: HostRuntime) -> ExitCode {
     let mut input = [0u8; 257];
-    let got = console::read_input(&rt, b"list", &mut input);
-    if got.failed {
+    let Some(n) = console::read_input(&rt, b"list", &mut input) else {
         return ExitCode::FAILURE;
-    }
-    let n = got.length;
+    };
     let mut room = [0u8; 2816];
     let length = text(&input[..n], &mut room);
     console::print(&rt, b"list", &room[..length])

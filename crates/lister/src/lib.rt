@@ -43,7 +43,7 @@ impl Refusal {
     }
 }
 
-// The longest line is of 44 bytes.
+// The longest line is of 44 bytes; each is made in a buffer of so many, since there is no heap.
 const LINE: usize = 44;
 
 // How long the lines of these words are together: known before the room is touched, so that a refusal leaves it as found.

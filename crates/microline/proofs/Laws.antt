@@ -11,7 +11,7 @@ use lib.ListN.{length, get_or, take, drop, length-append, drop_of_length-le}
 use lib.Seq.{drop-cons}
 use Rattle.microword.specs.Microword.{fields_of, normal_fields, idle, binary}
 use Rattle.microword.specs.declared.Fields.{Fields}
-use Rattle.microtext.specs.Listing.{formulas, formula, operation, jump, part, line, transfer_part, register_name, jump_texts}
+use Rattle.microtext.specs.Listing.{destination, operation_part, formulas, formula, operation, jump, part, line, transfer_part, register_name, jump_texts}
 use Rattle.part.specs.Grammar.{registers}
 use Rattle.text.specs.Text.{bytes}
 use Rattle.text.specs.Laid.{Laid, Wrote}
@@ -49,6 +49,21 @@ pub two_spelt : (p : List (Bor (List ℕ))) (rest : List ℕ) → length p ≡ 2
 two_spelt p rest h =
     rw (spelt_at p 0 no_piece (omega arith), spelt_at p 1 no_piece (omega arith), spelt_end p 2 (omega arith))
     (simp (append_assoc, append-nil))
+
+three_spelt : (p : List (Bor (List ℕ))) (rest : List ℕ) → length p ≡ 3
+    → piece_at p 0 ++ (piece_at p 1 ++ (piece_at p 2 ++ rest)) ≡ spelt p ++ rest
+three_spelt p rest h =
+    rw (spelt_at p 0 no_piece (omega arith), spelt_at p 1 no_piece (omega arith), spelt_at p 2 no_piece (omega arith), spelt_end p 3 (omega arith))
+    (simp (append_assoc, append-nil))
+
+regrouped : (to computed : List ℕ) → (bytes " " ++ to ++ bytes ":=") ++ (computed ++ bytes ";") ≡ bytes " " ++ (to ++ bytes ":=" ++ computed) ++ bytes ";"
+regrouped to computed = simp append_assoc
+
+-- An operation of where it stores and the formula's pieces.
+pub operation_spelt : (m : Fields) (to : List ℕ) (x : List (Bor (List ℕ))) → idle m ≡ false → to ≡ bytes " " ++ destination m ++ bytes ":="
+    → length x ≡ 3 → spelt x ≡ formula m → to ++ (piece_at x 0 ++ (piece_at x 1 ++ (piece_at x 2 ++ bytes ";"))) ≡ operation_part m
+unfolding operation
+operation_spelt m to x busy stores three computes = rw (three_spelt x (bytes ";") three, stores, computes, busy) (regrouped (destination m) (formula m))
 
 pub five_spelt : (p : List (Bor (List ℕ))) (rest : List ℕ) → length p ≡ 5
     → piece_at p 0 ++ (piece_at p 1 ++ (piece_at p 2 ++ (piece_at p 3 ++ (piece_at p 4 ++ rest)))) ≡ spelt p ++ rest

@@ -1,14 +1,14 @@
 // One line of a listing: its number and the parts of a control word, put together from pieces.
 #![tactic(auto)]
 
-ghost use Rattle.std.specs.Prelude.{◌≡◌, ℕ, [], ◌∷◌, ◌++◌, ◌+◌, ◌*◌, ◌/◌, ◌%◌, ◌<◌, ◌≤◌, length, get_or, take, drop};
-ghost use Rattle.microtext.specs.Listing.{line, register_name, formula, destination, operation_part, transfer_part, jump_texts, jump_part};
+ghost use Rattle.std.specs.Prelude.{◌≡◌, [], ◌∷◌, ◌++◌, ◌+◌, ◌*◌, ◌/◌, ◌%◌, ◌<◌, ◌≤◌, length, get_or, take, drop};
+ghost use Rattle.microtext.specs.Listing.{register_name, formula, destination, operation_part, transfer_part, jump_texts, jump_part};
 ghost use Rattle.text.specs.Laid.{Wrote};
 ghost use Rattle.text.specs.Decimal.{short_decimal};
 ghost use Rattle.microline.specs.Line.{laid_line};
 ghost use Rattle.microline.specs.Code.Pieces.{spelt};
 
-use microword::{Fields, fields_of};
+use microword::{Fields, fields_of, is_idle};
 
 // Pieces, one behind the other.
 fn put_pieces(room: &mut [u8], pieces: &[&[u8]]) -> usize
@@ -79,11 +79,11 @@ fn formula<'a>(m: Fields) -> [&'a [u8]; 3]
 }
 
 // The operation; none where nothing asks for its result.
-#[tactic(auto, unfolding(microtext::specs::Listing::operation, microword::specs::Microword::idle))]
+#[tactic(auto, unfolding(microtext::specs::Listing::operation))]
 fn operation<'a>(m: Fields) -> [&'a [u8]; 5]
     ensures { spelt result ≡ operation_part m }
 {
-    if m.hs == 0 && matches!(m.sq, 0 | 3) {
+    if is_idle(m) {
         return [b"", b"", b"", b"", b""];
     }
     let [x, y, z] = formula(m);
@@ -159,7 +159,8 @@ fn pieces<'a>(number: &'a [u8], m: Fields, target: &'a [u8]) -> [&'a [u8]; 10]
     [number, to, x, y, z, stop, moved, words, goal, b"\n"]
 }
 
-// A control word as a line, from the start of the room. A smaller room than a line may need, or a number that no line has, is left as found.
+// A control word as a line, from the start of the room. A smaller room than a line may need, or a number that no line has, is left as found;
+// the answer is then 0 and no None, as `laid_line` says for every room, number and word.
 #[tactic(auto, unfolding(crate::specs::Line::laid_line))]
 pub fn put_line(room: &mut [u8], number: u32, word: u32) -> usize
     ensures { laid_line room.old number word ≡ record { room = room.new; next = result } }

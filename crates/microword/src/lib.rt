@@ -2,7 +2,7 @@
 #![tactic(auto)]
 
 ghost use Rattle.std.specs.Prelude.{◌≡◌, cond};
-ghost use Rattle.microword.specs.Microword.{fields_of, word_of, bad_word, normal_fields, normal_form};
+ghost use Rattle.microword.specs.Microword.{fields_of, word_of, bad_word, idle, normal_fields, normal_form};
 
 use word::{put_below, take};
 
@@ -67,12 +67,20 @@ fn used(without_use: bool, value: u32) -> u32
     if without_use { 0 } else { value }
 }
 
+// Nothing asks for the result.
+#[tactic(auto, unfolding(crate::specs::Microword::idle))]
+pub fn is_idle(m: Fields) -> bool
+    ensures { result ≡ idle m }
+{
+    m.hs == 0 && matches!(m.sq, 0 | 3)
+}
+
 // The fields with 0 wherever one is without use.
-#[tactic(auto, unfolding(crate::specs::Microword::normal_fields, crate::specs::Microword::idle, crate::specs::Microword::binary))]
+#[tactic(auto, unfolding(crate::specs::Microword::normal_fields, crate::specs::Microword::binary))]
 pub fn normal_fields(m: Fields) -> Fields
     ensures { result ≡ normal_fields m }
 {
-    let idle = m.hs == 0 && matches!(m.sq, 0 | 3);
+    let idle = is_idle(m);
     let binary = matches!(m.f, 3 | 4 | 5);
     Fields {
         a: used(idle, m.a),

@@ -16,6 +16,7 @@ pub fn behind_line(end: usize, last: usize) -> usize
 }
 
 // Lays `text` from `at` on and answers where it ends. Where it would pass the room's end nothing is laid.
+// The answer is a place in every case, and no Option: `laid` says for every room where what comes next may be laid.
 #[tactic(auto, unfolding(crate::specs::Laid::laid))]
 pub fn put(room: &mut [u8], at: usize, text: &[u8]) -> usize
     ensures { laid room.old at text.now ≡ record { room = room.new; next = result } }

@@ -2,8 +2,5 @@
 use Rattle.console.proofs.Laws.{front}
 use Rattle.list.proofs.tell.Goals as goal
 
-pub returns-in-Some-clause-prefix_len : goal.returns-in-Some-clause-prefix_len
-returns-in-Some-clause-prefix_len c = (front _ _ _ _ c.requires.wide c.refusal_at.ensures).counted
-
-pub returns-in-None-clause-prefix_len : goal.returns-in-None-clause-prefix_len
-returns-in-None-clause-prefix_len c = (front _ _ _ _ c.requires.wide c.refusal.ensures).counted
+pub returns-in-Err-clause-prefix_len : goal.returns-in-Err-clause-prefix_len
+returns-in-Err-clause-prefix_len c = (front _ _ _ _ c.requires.wide c.refusal.ensures).counted
