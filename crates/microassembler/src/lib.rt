@@ -49,6 +49,7 @@ pub fn assemble(text: &[u8], store: &mut [u32]) -> Result<(), Refusal>
     if 8192 < text.len() {
         return Err(Refusal::LongText);
     }
+    // A line ends where it is read to: so place and number go along here, and no iterator of lines finds each end a second time.
     let mut made = [0u32; 64];
     let mut at = 0;
     let mut k = 0u8;

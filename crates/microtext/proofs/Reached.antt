@@ -1,10 +1,10 @@
 -- The loop over a line's tokens: those that are taken and those that are still to come make up the whole line.
 use Prim.Native.Nat.{ℕ, ◌+◌, ◌-◌, ◌≤◌, ◌<◌}
 use mathlib.Core.Path.{◌≡◌, refl, sym, ap, ◌∙◌}
-use mathlib.Core.List.{List, [], ◌∷◌}
+use mathlib.Core.List.{List}
 use native.Mathlib.Omega.{arith}
 use lib.ListN.{length}
-use Rattle.std.specs.Prelude.{Option, Some, None, Result, Ok, Err}
+use Rattle.std.specs.Prelude.{Option, Some, None, Ok, Err}
 use Rattle.token.specs.Code.Next.{scanned}
 use Rattle.token.specs.declared.Token.{Token as Packed}
 use Rattle.token.specs.declared.Scanned.{Scanned}

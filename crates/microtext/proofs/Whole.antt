@@ -3,7 +3,6 @@ use Prim.Native.Nat.{ℕ, ◌≤◌, ◌<◌}
 use mathlib.Core.Path.{◌≡◌, refl, sym, ap, ◌∙◌}
 use mathlib.Core.Bool.{Bool, true, false, cond, false≢true}
 use mathlib.Core.List.{List, [], ◌∷◌, map}
-use native.Mathlib.Omega.{arith}
 use borrow.Author.Tests.{lt-ltb, le-ltb}
 use lib.Dec.{eqb}
 use lib.ListN.{length}
@@ -19,7 +18,6 @@ use Rattle.token.proofs.Next.{taking, next}
 use Rattle.part.specs.declared.Part.{Part}
 use Rattle.part.proofs.Course.{rest, rest_of, Fine, Begun, Reaches, step, finish}
 use Rattle.text.specs.Text.{bytes, ◌is◌, line_at, end_at, next_line, behind_line}
-use Rattle.text.specs.Decimal.{from_decimal}
 use Rattle.token.proofs.Decimals.{decimal_of_lem}
 use Rattle.token.specs.Code.Numbers.{codes_at, decimal_of, code_of}
 use Rattle.part.specs.Code.Stage.{advance, finished}
@@ -31,7 +29,7 @@ use Rattle.microtext.specs.Reading.{reading, reading_at}
 use Rattle.microtext.specs.declared.Given.{Given}
 use Rattle.microtext.specs.declared.Parts.{Parts}
 use Rattle.microtext.specs.declared.Fault.TheVariants.{ExtraLine, WrongNumber, Ungrammatical}
-use Rattle.microtext.specs.Code.Progress.{in_grammar, part_ended, taken, all_taken, concluded_at, concluded, no_parts}
+use Rattle.microtext.specs.Code.Progress.{in_grammar, part_ended, taken, all_taken, concluded, no_parts}
 
 -- The parts of a line whose first piece has been read up to a stage.
 abbrev last_from : Stage → List Token → List (Option Part)

@@ -6,12 +6,23 @@ ghost use Rattle.part.specs.Code.Stage.{register_of, destination_of, completed a
 
 use token::Token;
 
-// A part of a line. `to` is the register that keeps the result, if one does.
+// A part of a line. `to` is the register that keeps the result, if one does; the other numbers are document 01's of the word's fields.
 #[derive(Clone, Copy, Debug, PartialEq, Eq)]
 pub enum Part {
-    Operation { to: Option<u32>, f: u32, a: u32, b: u32 },
-    Transfer { rd: u32, wr: u32 },
-    Jump { sq: u32, end: u32 },
+    Operation {
+        to: Option<u32>,
+        f: u32,
+        a: u32,
+        b: u32,
+    },
+    Transfer {
+        rd: u32,
+        wr: u32,
+    },
+    Jump {
+        sq: u32,
+        end: u32,
+    },
 }
 
 // What a formula is read for: the register that keeps its result, if one does, and whether an opening bracket wants closing.
@@ -73,11 +84,17 @@ fn from_start(t: Token) -> Option<Stage>
     ensures { result ≡ from_start t.0 }
 {
     match t {
-        Token::RD => Some(Stage::Whole { part: Part::Transfer { rd: 1, wr: 0 } }),
-        Token::WR => Some(Stage::Whole { part: Part::Transfer { rd: 0, wr: 1 } }),
+        Token::RD => Some(Stage::Whole {
+            part: Part::Transfer { rd: 1, wr: 0 },
+        }),
+        Token::WR => Some(Stage::Whole {
+            part: Part::Transfer { rd: 0, wr: 1 },
+        }),
         Token::GOTO => Some(Stage::Goto { sq: 3 }),
         Token::IF => Some(Stage::If),
-        _ => Some(Stage::Named { to: destination(t)? }),
+        _ => Some(Stage::Named {
+            to: destination(t)?,
+        }),
     }
 }
 
@@ -87,7 +104,11 @@ impl Target {
     fn completed(self, part: Part) -> Stage
         ensures { result ≡ completed_by self part }
     {
-        if self.bracket { Stage::Closing { part } } else { Stage::Whole { part } }
+        if self.bracket {
+            Stage::Closing { part }
+        } else {
+            Stage::Whole { part }
+        }
     }
 
     // One of <<r, >>r, r and what begins with r.
@@ -98,7 +119,10 @@ impl Target {
         match t {
             Token::LEFT => Some(Stage::Shift { target: self, f: 6 }),
             Token::RIGHT => Some(Stage::Shift { target: self, f: 7 }),
-            _ => Some(Stage::First { target: self, a: register_named(t)? }),
+            _ => Some(Stage::First {
+                target: self,
+                a: register_named(t)?,
+            }),
         }
     }
 
@@ -107,7 +131,12 @@ impl Target {
         ensures { result ≡ from_shift self f t.0 }
     {
         let a = register_named(t)?;
-        Some(self.completed(Part::Operation { to: self.to, f, a, b: 0 }))
+        Some(self.completed(Part::Operation {
+            to: self.to,
+            f,
+            a,
+            b: 0,
+        }))
     }
 
     // Behind the first register: a sign, or the bracket that closes.
@@ -116,11 +145,30 @@ impl Target {
         ensures { result ≡ from_first self a t.0 }
     {
         match t {
-            Token::PLUS => Some(Stage::Sign { target: self, f: 3, a }),
-            Token::MINUS => Some(Stage::Sign { target: self, f: 4, a }),
-            Token::AND => Some(Stage::Sign { target: self, f: 5, a }),
+            Token::PLUS => Some(Stage::Sign {
+                target: self,
+                f: 3,
+                a,
+            }),
+            Token::MINUS => Some(Stage::Sign {
+                target: self,
+                f: 4,
+                a,
+            }),
+            Token::AND => Some(Stage::Sign {
+                target: self,
+                f: 5,
+                a,
+            }),
             Token::CLOSE if self.bracket => {
-                Some(Stage::Whole { part: Part::Operation { to: self.to, f: 0, a, b: 0 } })
+                Some(Stage::Whole {
+                    part: Part::Operation {
+                        to: self.to,
+                        f: 0,
+                        a,
+                        b: 0,
+                    },
+                })
             }
             _ => None,
         }
@@ -135,7 +183,12 @@ impl Target {
         let part = match (t, f) {
             (Token::ONE, 3) => Part::Operation { to, f: 1, a, b: 0 },
             (Token::ONE, 4) => Part::Operation { to, f: 2, a, b: 0 },
-            _ => Part::Operation { to, f, a, b: register_named(t)? },
+            _ => Part::Operation {
+                to,
+                f,
+                a,
+                b: register_named(t)?,
+            },
         };
         Some(self.completed(part))
     }
@@ -146,7 +199,9 @@ fn from_goto(sq: u32, t: Token) -> Option<Stage>
     ensures { result ≡ from_goto sq t.0 }
 {
     let end = token::decimal(t)?;
-    Some(Stage::Whole { part: Part::Jump { sq, end } })
+    Some(Stage::Whole {
+        part: Part::Jump { sq, end },
+    })
 }
 
 // How a token moves a part along.
@@ -179,7 +234,12 @@ pub fn finished(stage: Stage) -> Option<Part>
     ensures { result ≡ finished_at stage }
 {
     match stage {
-        Stage::First { target, a } if !target.bracket => Some(Part::Operation { to: target.to, f: 0, a, b: 0 }),
+        Stage::First { target, a } if !target.bracket => Some(Part::Operation {
+            to: target.to,
+            f: 0,
+            a,
+            b: 0,
+        }),
         Stage::Whole { part } => Some(part),
         _ => None,
     }

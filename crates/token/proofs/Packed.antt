@@ -18,10 +18,6 @@ bytes_reverse : (t r : List ℕ) → Bytes t → Bytes r → Bytes (reverse_aux 
 bytes_reverse [] r a b = b
 bytes_reverse (c ∷ t) r a b = bytes_reverse t (c ∷ r) a.1 (a.0, b)
 
-pub packed_more : (n : ℕ) (t : List ℕ) (c : ℕ) → packed_after n (t ++ c ∷ []) ≡ grown (packed_after n t) c
-packed_more n [] c = refl
-packed_more n (x ∷ t) c = packed_more (grown n x) t c
-
 -- The same number, made of the bytes in reverse.
 back : List ℕ → ℕ
 back [] = 1

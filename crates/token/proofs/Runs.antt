@@ -8,8 +8,7 @@ use mathlib.Core.List.{List, [], ◌∷◌, ◌++◌}
 use native.Mathlib.Omega.{arith}
 use borrow.Author.Tests.{leb-true, ne_eqb, eq-eqb, lt-leb, ltb-false, eqb-true, eqb-false}
 use lib.Dec.{leb, ltb, eqb}
-use lib.ListN.{length, get_or, drop, length-append}
-use lib.Seq.{drop-cons}
+use lib.ListN.{length, get_or, length-append}
 use Rattle.std.specs.Prelude.{suc, Option, Some, None, unwrap_or}
 use Rattle.std.specs.List.{prefix_len, position_or_len, starts_with, slice_get}
 use Rattle.word.proofs.Tests.{both}

@@ -3,7 +3,7 @@ use Prim.Native.Nat.{ℕ, suc, ◌+◌, ◌-◌, ◌≤◌, ◌<◌}
 use Prim.Native.Char.{code}
 use mathlib.Core.Path.{◌≡◌, refl, sym, ap, ◌∙◌}
 use mathlib.Core.Bool.{Bool, true, false}
-use mathlib.Core.List.{List, [], ◌∷◌}
+use mathlib.Core.List.{List, ◌∷◌}
 use native.Mathlib.Omega.{arith}
 use borrow.Author.Tests.{eqb-true, eqb-false, ltb-true, ltb-false, ne_eqb}
 use lib.Dec.{ltb, eqb}
@@ -13,7 +13,7 @@ use Rattle.std.specs.Prelude.{Option, None}
 use Rattle.std.specs.List.{slice_range}
 use Rattle.text.specs.Text.{before, line_at}
 use Rattle.text.proofs.Lines.{text_ends, line_ends, line_goes_on, line_part, line_within}
-use Rattle.token.specs.Tokens.{Token, ended, going, tokens_after, tokens, started_by}
+use Rattle.token.specs.Tokens.{Token, ended, tokens_after, tokens, started_by}
 use Rattle.token.specs.Code.Next.{start_at, told, first, spaces, scanned, token_len}
 use Rattle.token.specs.declared.Token.{Token as Packed}
 use Rattle.token.proofs.Split.{tokens_first, Split, split}

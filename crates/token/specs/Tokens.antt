@@ -2,7 +2,7 @@
 -- one token each, any other byte is one by itself, and spaces only stand around tokens.
 use Rattle.std.specs.Prelude.{ℕ, Bool, true, false, cond, ◌&&◌, ◌||◌, List, [], ◌∷◌, ◌++◌, leb, eqb}
 use Prim.Native.Char.{code}
-use Rattle.text.specs.Text.{same, ◌is◌}
+use Rattle.text.specs.Text.{◌is◌}
 use Rattle.text.specs.Decimal.{digit}
 
 abbrev pub Token : Type 0

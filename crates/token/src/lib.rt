@@ -12,31 +12,57 @@ pub struct Token(pub u64);
 // The words and signs of micro text. A constant can call no function, so each is its number.
 impl Token {
     pub const CP: Token = Token(0x1_6370);
+
     pub const AC: Token = Token(0x1_6163);
+
     pub const PP: Token = Token(0x1_7070);
+
     pub const RI: Token = Token(0x1_7269);
+
     pub const RT: Token = Token(0x1_7274);
+
     pub const MASC: Token = Token(0x1_6d61_7363);
+
     pub const REM: Token = Token(0x172_656d);
+
     pub const RDM: Token = Token(0x172_646d);
+
     pub const ALU: Token = Token(0x161_6c75);
+
     pub const RD: Token = Token(0x1_7264);
+
     pub const WR: Token = Token(0x1_7772);
+
     pub const GOTO: Token = Token(0x1_676f_746f);
+
     pub const IF: Token = Token(0x1_6966);
+
     pub const THEN: Token = Token(0x1_7468_656e);
+
     pub const N: Token = Token(0x16e);
+
     pub const Z: Token = Token(0x17a);
+
     pub const ASSIGN: Token = Token(0x1_3a3d);
+
     pub const LEFT: Token = Token(0x1_3c3c);
+
     pub const RIGHT: Token = Token(0x1_3e3e);
+
     pub const PLUS: Token = Token(0x12b);
+
     pub const MINUS: Token = Token(0x12d);
+
     pub const AND: Token = Token(0x15e);
+
     pub const ONE: Token = Token(0x131);
+
     pub const OPEN: Token = Token(0x128);
+
     pub const CLOSE: Token = Token(0x129);
+
     pub const COLON: Token = Token(0x13a);
+
     pub const SEMICOLON: Token = Token(0x13b);
 }
 
@@ -96,10 +122,16 @@ fn token_len(rest: &[u8]) -> usize
         return 0;
     }
     if c.is_ascii_lowercase() {
-        return rest.iter().position(|c| !c.is_ascii_lowercase()).unwrap_or(rest.len());
+        return rest
+            .iter()
+            .position(|c| !c.is_ascii_lowercase())
+            .unwrap_or(rest.len());
     }
     if c.is_ascii_digit() {
-        return rest.iter().position(|c| !c.is_ascii_digit()).unwrap_or(rest.len());
+        return rest
+            .iter()
+            .position(|c| !c.is_ascii_digit())
+            .unwrap_or(rest.len());
     }
     if rest.starts_with(b":=") || rest.starts_with(b"<<") || rest.starts_with(b">>") {
         return 2;
@@ -113,10 +145,16 @@ pub fn next_token(text: &[u8], at: usize) -> Scanned
 {
     let i = start(text, at);
     let Some(rest) = text.get(i..) else {
-        return Scanned { token: None, behind: i };
+        return Scanned {
+            token: None,
+            behind: i,
+        };
     };
     let token = &rest[..token_len(rest)];
-    Scanned { token: Token::of(token), behind: i + token.len() }
+    Scanned {
+        token: Token::of(token),
+        behind: i + token.len(),
+    }
 }
 
 // The number that a token of one or two digits with no leading zero spells.

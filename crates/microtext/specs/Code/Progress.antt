@@ -1,7 +1,6 @@
 -- Mirrors the code as it goes along a line: the parts so far, and what one token more makes of them. Only the contracts of private functions
 -- cite this; proofs/Whole shows that it comes to what Line says.
 use Rattle.std.specs.Prelude.{ℕ, cond, Result, Ok, Err, Option, Some, None, List, [], ◌∷◌, eqb}
-use Rattle.part.specs.declared.Part.{Part}
 use Rattle.token.specs.Code.Numbers.{code_of}
 use Rattle.part.specs.Code.Stage.{advance, finished}
 use Rattle.part.specs.declared.Stage.{Stage}

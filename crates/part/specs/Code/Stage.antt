@@ -1,6 +1,6 @@
 -- Mirrors the code: how far a part has been read, and how a token, as a number, moves it along. It is the grammar taken apart token by token: a part's
 -- tokens taken in turn from the start, then finished, come to what Grammar's `part` says of them (proofs/Laws: `in_turn`).
-use Rattle.std.specs.Prelude.{ℕ, Bool, true, false, cond, ◌&&◌, Option, Some, None, position, map, eqb}
+use Rattle.std.specs.Prelude.{ℕ, true, false, cond, ◌&&◌, Option, Some, None, position, map, eqb}
 use Rattle.std.specs.Option.{option_map}
 use Rattle.token.specs.Code.Numbers.{numeral, decimal_of, code_of}
 use Rattle.part.specs.Grammar.{registers}

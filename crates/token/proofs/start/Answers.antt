@@ -1,6 +1,5 @@
 -- `start` stops at the first byte that is no space: behind each one before it the same token begins and is scanned.
 use mathlib.Core.Path.{◌∙◌}
-use native.Mathlib.Omega.{arith}
 use Rattle.token.proofs.Scan.{one_space, space_passed}
 use Rattle.token.proofs.start.Goals as goal
 

@@ -39,12 +39,18 @@ returns-then-starts_with c =
     (sym c.is_ascii_lowercase.ensures.value ∙ c.if-is_ascii_lowercase.false) (sym c.is_ascii_digit.ensures.value ∙ c.if-is_ascii_digit.false)
     c.if-c-eq10.false c.requires true
     (elim c.then-starts_with.branch [
-      then-starts_with-via-then-starts_with w ↦ rw (← c.starts_with.ensures.value, w.if-starts_with.true) refl
-    | then-starts_with-via-else-starts_with+then-starts_with-2 w ↦
-        rw (← c.starts_with.ensures.value, w.if-starts_with.false, ← w.starts_with-else-starts_with.ensures.value, w.if-starts_with-2.true) refl
-    | then-starts_with-via-else-starts_with+else-starts_with-2+then-starts_with-3 w ↦
-        rw (← c.starts_with.ensures.value, w.if-starts_with.false, ← w.starts_with-else-starts_with.ensures.value, w.if-starts_with-2.false,
-        ← w.starts_with-else-starts_with-2.ensures.value, w.if-starts_with-3.true) refl
+      | then-starts_with-via-then-starts_with w ↦ rw (← c.starts_with.ensures.value, w.if-starts_with.true) refl
+      | then-starts_with-via-else-starts_with+then-starts_with-2 w ↦
+          rw (← c.starts_with.ensures.value, w.if-starts_with.false, ← w.starts_with-else-starts_with.ensures.value, w.if-starts_with-2.true) refl
+      | then-starts_with-via-else-starts_with+else-starts_with-2+then-starts_with-3 w ↦
+          rw (
+            ← c.starts_with.ensures.value,
+            w.if-starts_with.false,
+            ← w.starts_with-else-starts_with.ensures.value,
+            w.if-starts_with-2.false,
+            ← w.starts_with-else-starts_with-2.ensures.value,
+            w.if-starts_with-3.true,
+          ) refl
     ])
 
 pub returns : goal.returns
@@ -52,5 +58,11 @@ returns c =
     sign_long c.args.rest.now c.in-Some.c (c.in-Some.ensures ∙ c.first.ensures.value)
     (sym c.is_ascii_lowercase.ensures.value ∙ c.if-is_ascii_lowercase.false) (sym c.is_ascii_digit.ensures.value ∙ c.if-is_ascii_digit.false)
     c.if-c-eq10.false c.requires false
-    (rw (← c.starts_with.ensures.value, c.if-starts_with.false, ← c.starts_with-else-starts_with.ensures.value, c.if-starts_with-2.false,
-    ← c.starts_with-else-starts_with-2.ensures.value, c.if-starts_with-3.false) refl)
+    (rw (
+      ← c.starts_with.ensures.value,
+      c.if-starts_with.false,
+      ← c.starts_with-else-starts_with.ensures.value,
+      c.if-starts_with-2.false,
+      ← c.starts_with-else-starts_with-2.ensures.value,
+      c.if-starts_with-3.false,
+    ) refl)

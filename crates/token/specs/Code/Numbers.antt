@@ -1,10 +1,10 @@
 -- Mirrors the code: the numbers that it compares tokens with, the numbers of a line's tokens, a name and a decimal by their numbers, and what a sign begins with.
-use Rattle.std.specs.Prelude.{ℕ, ◌+◌, ◌-◌, ◌*◌, ◌/◌, ◌%◌, ◌≡◌, false, cond, ◌&&◌, Option, Some, None, List, [], ◌∷◌, map, leb, eqb}
+use Rattle.std.specs.Prelude.{ℕ, ◌+◌, ◌-◌, ◌*◌, ◌/◌, ◌%◌, cond, ◌&&◌, Option, Some, None, List, [], ◌∷◌, map, leb, eqb}
 use Prim.Native.Char.{code}
 use Prim.Native.String.{String}
 use Rattle.text.specs.Text.{bytes, line_at}
 use Rattle.text.specs.Decimal.{digit}
-use Rattle.token.specs.Tokens.{letter, tokens}
+use Rattle.token.specs.Tokens.{tokens}
 use Rattle.token.specs.Code.Next.{packed}
 
 -- Bytes behind a 1, as the digits of one number to the base 256.
