@@ -1,19 +1,21 @@
--- Laws of the run program: what is printed of an image that was refused, and of one that was read.
-use Prim.Native.Nat.{ℕ, ◌≤◌}
-use mathlib.Core.Path.{◌≡◌}
-use mathlib.Core.List.{List}
-use borrow.Author.Tests.{le-ltb, eq-eqb, ne_eqb}
-use lib.ListN.{length, replicate}
-use Rattle.image.specs.Image.{reading}
+-- Laws of the run program: what is printed of an input that was refused, and of one that was read.
+use Rattle.std.proofs.Common.{◌≡◌, ℕ, false, eqb, List, replicate, None, refl}
+use Rattle.image.proofs.Refusals.{no_zero as image_no_zero}
 use Rattle.console.specs.Text.{refusal}
-use Rattle.run.specs.Report.{ran, told, printed}
+use Rattle.run.specs.declared.Refusal.{Refusal}
+use Rattle.run.specs.declared.Refusal.TheVariants.{TooLong, Image}
+use Rattle.run.specs.Refusals.{number}
+use Rattle.run.specs.Report.{admitted, ran, told, printed}
 
-module _ (input memory : List ℕ) (answer : ℕ) (short : length input ≤ 16368)
-    (read : reading input (replicate 4096 0) ≡ record { answer = answer; memory = memory }) where
-  pub refused_text : (answer ≡ 0 → ⊥) → printed input ≡ refusal answer
-  unfolding printed told
-  refused_text refused = rw (le-ltb _ _ short, read, ne_eqb _ _ refused)
+no_zero : (r : Refusal) → eqb (number r) 0 ≡ false
+no_zero TooLong = refl
+no_zero (Image refused) = image_no_zero refused
 
-  pub ran_text : answer ≡ 0 → printed input ≡ ran memory
-  unfolding printed told
-  ran_text accepted = rw (le-ltb _ _ short, read, eq-eqb _ _ accepted)
+pub refused_text : (input memory : List ℕ) (r : Refusal) → admitted input (replicate 4096 0) ≡ record { answer = number r; memory = memory }
+    → printed input ≡ refusal (number r) None
+unfolding printed told
+refused_text input memory r read = rw (read, no_zero r)
+
+pub read_text : (input memory : List ℕ) → admitted input (replicate 4096 0) ≡ record { answer = 0; memory = memory } → printed input ≡ ran memory
+unfolding printed told
+read_text input memory read = rw read

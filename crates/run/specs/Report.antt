@@ -1,5 +1,5 @@
 -- What the run program prints (01, Micro text and images, the last paragraph but one): the report of 1,000 instructions, or the answer line.
-use Rattle.std.specs.Prelude.{ℕ, cond, List, [], ltb, eqb, length, replicate}
+use Rattle.std.specs.Prelude.{ℕ, cond, List, [], ltb, eqb, length, replicate, None}
 use Rattle.image.specs.Image.{Reading, reading}
 use Rattle.instruction.specs.Instruction.{State}
 use Rattle.turns.specs.Turns.{Turned}
@@ -32,10 +32,14 @@ reported e = report (fields e) e.state.log
 unfoldable pub ran : List ℕ → List ℕ
 ran memory = reported (runs [] 1000 (started memory))
 
+-- Input over 16,368 bytes is 25, before all else; then the image reader answers.
+unfoldable pub admitted : List ℕ → List ℕ → Reading
+admitted input memory = cond (ltb 16368 (length input)) (record { answer = 25; memory = memory }) (reading input memory)
+
 -- A refused input prints only `answer` and the number.
 unfoldable pub told : Reading → List ℕ
-told r = cond (eqb r.answer 0) (ran r.memory) (refusal r.answer)
+told r = cond (eqb r.answer 0) (ran r.memory) (refusal r.answer None)
 
--- Input over 16,368 bytes is 25, before all else.
+-- What is printed of an input.
 unfoldable pub printed : List ℕ → List ℕ
-printed input = cond (ltb 16368 (length input)) (refusal 25) (told (reading input (replicate 4096 0)))
+printed input = told (admitted input (replicate 4096 0))

@@ -3,77 +3,119 @@
 
 ghost use Rattle.std.specs.Prelude.{◌≡◌, ◌≤◌, length as lib_length, take};
 ghost use Rattle.io.specs.Counts.{IsPrefixLen};
-ghost use Rattle.run.specs.Report.{ran, printed};
+ghost use Rattle.word.specs.Answer.{answered};
+ghost use Rattle.run.specs.declared.Refusal.TheVariants.{Image};
+ghost use Rattle.run.specs.Refusals.{number};
+ghost use Rattle.run.specs.Report.{ran, admitted, printed};
 
 use console::Run;
-use instruction::Cpu;
+use instruction::{Core, Cpu};
+use interpreter::Ran;
 use std::process::ExitCode;
 use word::Address;
 
 // The bytes of the longest image.
 const LONGEST: usize = 16368;
 
-// Document 01's number of the one refusal that is the program's own: more input than any image has.
-const TOO_LONG: u32 = 25;
+// Why an input is not run: it is more than any image has, or the image reader refuses it.
+#[derive(Clone, Copy, Debug, PartialEq, Eq)]
+enum Refusal {
+    TooLong,
+    Image(image::Refusal),
+}
 
-// The report of a memory's run, at the front of the room.
+impl From<image::Refusal> for Refusal {
+    ghost from_gives = { λ refused r. r ≡ Image refused };
+
+    fn from(refused: image::Refusal) -> Refusal {
+        Refusal::Image(refused)
+    }
+}
+
+// Document 01's number of it.
+impl From<Refusal> for u32 {
+    ghost from_gives = { λ r n. n ≡ number r };
+
+    fn from(refusal: Refusal) -> u32 {
+        match refusal {
+            Refusal::TooLong => 25,
+            Refusal::Image(refused) => u32::from(refused),
+        }
+    }
+}
+
+// Reads the input into a memory.
+#[tactic(auto, unfolding(crate::specs::Report::admitted))]
+fn read(input: &[u8], memory: &mut [u16]) -> Result<(), Refusal>
+    ensures { admitted input.now memory.old ≡ record { answer = answered number result; memory = memory.new } }
+{
+    if LONGEST < input.len() {
+        return Err(Refusal::TooLong);
+    }
+    image::read(input, memory)?;
+    Ok(())
+}
+
+// The report of a memory's run, at the front of the room. A refused run leaves the registers as they stood.
+#[tactic(auto, using(console::proofs::Laws::front), unfolding(crate::specs::Report::ran))]
 fn run_memory(memory: &mut [u16], room: &mut [u8]) -> usize
     requires { 512 ≤ lib_length room.old }
     ensures room_after { take result room.new ≡ ran memory.old }
     ensures prefix_len { IsPrefixLen result room.new }
 {
-    let none = [0u16; 0];
     let mut log = [0u16; 8];
-    let start = Cpu {
+    let core = Core {
         cp: Address(0),
         pp: Address(0),
         ac: 0,
         place: 0,
-        count: 0,
     };
-    let end = interpreter::run(memory, &none, &mut log, start, 1000);
-    let answer = end.answer;
-    let cpu = end.cpu;
-    let cp = cpu.cp;
-    let pp = cpu.pp;
+    let start = Cpu { core, count: 0 };
+    let (answer, end) = match interpreter::run(memory, &[], &mut log, start, 1000) {
+        Ok(ran) => (ran.stop.map_or(0, u32::from), ran),
+        Err(refusal) => (
+            u32::from(refusal),
+            Ran {
+                cpu: start,
+                done: 0,
+                cycles: 0,
+                stop: None,
+            },
+        ),
+    };
+    let core = end.cpu.core;
     let run = Run {
-        answer: answer.number(),
+        answer,
         done: end.done,
         cycles: end.cycles,
-        cp,
-        pp,
-        ac: cpu.ac,
-        count: cpu.count,
+        cp: core.cp,
+        pp: core.pp,
+        ac: core.ac,
+        count: end.cpu.count,
     };
     console::report(run, &log, room)
 }
 
 // The text for an input, at the front of the room.
+#[tactic(auto, using(crate::proofs::Laws::read_text))]
 fn text(input: &[u8], room: &mut [u8]) -> usize
     requires { 512 ≤ lib_length room.old }
     ensures room_after { take result room.new ≡ printed input.now }
     ensures prefix_len { IsPrefixLen result room.new }
 {
-    if LONGEST < input.len() {
-        return console::refusal(TOO_LONG, room);
-    }
     let mut memory = [0u16; 4096];
-    let read = image::read(input, &mut memory);
-    let answer = read.number();
-    if answer != 0 {
-        return console::refusal(answer, room);
+    match read(input, &mut memory) {
+        Ok(()) => run_memory(&mut memory, room),
+        Err(refusal) => console::refusal(u32::from(refusal), None, room),
     }
-    run_memory(&mut memory, room)
 }
 
 // A read that fails runs nothing.
 fn main(rt: HostRuntime) -> ExitCode {
     let mut input = [0u8; 16369];
-    let got = console::read_input(&rt, b"run", &mut input);
-    if got.failed {
+    let Some(n) = console::read_input(&rt, b"run", &mut input) else {
         return ExitCode::FAILURE;
-    }
-    let n = got.length;
+    };
     let mut room = [0u8; 512];
     let length = text(&input[..n], &mut room);
     console::print(&rt, b"run", &room[..length])
