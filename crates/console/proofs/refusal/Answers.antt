@@ -8,7 +8,13 @@ use Rattle.console.proofs.refusal.Goals.{in-Some, in_default}
 pub returns : goal.returns
 unfolding refusal
 returns c =
+    let answer = c.labelled.ensures in
+    let wide = c.if-room-lt-ROOM.false in
     elim c.match-line.branch [
-      | in-Some w ↦ rw w.in-Some.is (shown_put (c.labelled.ensures and w.labelled-in-Some.ensures and rw w.page-is at c.bytes.ensures) refl (search rules) c.if-room-lt-ROOM.false (omega arith))
-      | in_default w ↦ rw w.in_default.is (shown_put (c.labelled.ensures and rw w.page-is at c.bytes.ensures) refl (search rules) c.if-room-lt-ROOM.false (omega arith))
+      | in-Some w ↦
+          let put = answer and w.labelled-in-Some.ensures and rw w.page-is at c.bytes.ensures in
+          rw w.in-Some.is (shown_put put refl (search rules) wide (omega arith))
+      | in_default w ↦
+          let put = answer and rw w.page-is at c.bytes.ensures in
+          rw w.in_default.is (shown_put put refl (search rules) wide (omega arith))
     ]
