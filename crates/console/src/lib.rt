@@ -1,7 +1,7 @@
 // What the two programs share: standard input read to its end, the texts that they print as bytes in a lent room, and standard output.
 #![tactic(auto)]
 
-ghost use Rattle.std.specs.Prelude.{◌≡◌, [], ◌∷◌, ◌++◌, ◌+◌, ◌*◌, ◌≤◌, length, IfOk, IfSome};
+ghost use Rattle.std.specs.Prelude.{◌≡◌, ◌++◌, ◌+◌, ◌*◌, length, IfOk, IfSome};
 ghost use Rattle.text.specs.Decimal.{decimal};
 ghost use Rattle.console.specs.Text.{signed, counts, registers, line, lines, refusal as text_refusal, report as text_report};
 ghost use Rattle.console.specs.Code.Shown.{shown};
@@ -137,7 +137,8 @@ pub fn print(rt: &HostRuntime, program: &[u8], text: &[u8]) -> ExitCode {
     }
 }
 
-// A lent room, and the place behind what was put there. By hand: of a `write!` std's contracts say what is written where it is Ok, and not that it is Ok, as what is promised here needs.
+// A lent room, and the place behind what was put there.
+// By hand: of a `write!` std's contracts say what is written where it is Ok, and not that it is Ok, as what is promised here needs.
 #[derive(Drop)]
 struct Page<'a> {
     room: &'a mut [u8],
