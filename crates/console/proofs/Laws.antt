@@ -2,18 +2,16 @@
 use Prim.Native.Nat.{ℕ, zero, suc, ◌+◌, ◌-◌, ◌*◌, ◌/◌, ◌%◌, ◌^◌, ◌≤◌, ◌<◌}
 use mathlib.Core.Path.{◌≡◌, refl, sym, ◌∙◌, ap}
 use mathlib.Core.List.{List, [], ◌∷◌, ◌++◌, append_assoc}
-use native.Mathlib.Nat.{zero-add, mod-lt, pow-suc, one-le-pow, pow-le-pow_right}
+use native.Mathlib.Nat.{mod-lt, pow-suc, one-le-pow, pow-le-pow_right}
 use mathlib.Core.Bool.{Bool, true, false}
 use lib.Dec.{ltb}
 use native.Mathlib.Numerals.{add-one}
 use native.Mathlib.Omega.{arith}
 use borrow.Author.Tests.{lt-ltb, le-ltb, ltb-true, ltb-false}
-use lib.ListN.{length, get_or, take, drop, set, length-append, drop_of_length-le}
-use lib.Seq.{drop-cons, take-append_seam}
+use lib.ListN.{length, get_or, take, drop, length-append}
+use lib.Seq.{take-suc, take-append_seam}
 use Rattle.io.specs.Counts.{IsPrefixLen}
 use Rattle.io.specs.Digits.{last_digits as digits_of_io, IsDigitCount}
-use Rattle.text.specs.Laid.{Wrote}
-use Rattle.text.proofs.Laid.{◌then◌, all_of}
 use Rattle.text.specs.Decimal.{digits, decimal}
 use Rattle.console.specs.Text.{signed, lines}
 use Rattle.console.specs.Code.Shown.{Shown, shown}
@@ -32,7 +30,7 @@ spelt (suc k) (suc most) n h below above =
     (ap (λ (front : List ℕ). front ++ (48 + n % 10) ∷ []) (spelt k most (n / 10) (omega arith) (omega arith) (λ p. omega arith)))
 
 -- 20 digits are enough for a number of 64 bits.
-pub short : (k n : ℕ) → n < 2 ^ 64 → IsDigitCount 10 1 n k → k ≤ 20
+short : (k n : ℕ) → n < 2 ^ 64 → IsDigitCount 10 1 n k → k ≤ 20
 short k n wide f = go (ltb 20 k) refl
   where
     go : (past : Bool) → ltb 20 k ≡ past → k ≤ 20
@@ -48,26 +46,15 @@ fewest (suc k) n wide f =
     let e : suc k - 1 ≡ k = omega arith in
     spelt k 20 n (short (suc k) n wide f) f.1 (λ p. rw e at (f.2 (omega arith)))
 
--- The lines from a word on.
-pub lines_next : (words : List ℕ) (i : ℕ) → i < length words
-    → lines (drop i words) ≡ lines (get_or words i 0 ∷ []) ++ lines (drop (i + 1) words)
+-- The lines up to a word, and the word's.
+lines_append : (words more : List ℕ) → lines (words ++ more) ≡ lines words ++ lines more
 unfolding lines
-lines_next words i h = rw (add-one, drop-cons words i 0 h) (sym (append_assoc (signed (get_or words i 0)) (10 ∷ []) (lines (drop (suc i) words))))
+lines_append [] more = refl
+lines_append (word ∷ words) more = rw (lines_append words more) (sym (append_assoc (signed word) (10 ∷ lines words) (lines more)))
 
-pub lines_end : (words : List ℕ) (i : ℕ) → length words ≤ i → lines (drop i words) ≡ []
+pub lines_more : (words : List ℕ) (i : ℕ) → i < length words → lines (take i words) ++ (signed (get_or words i 0) ++ 10 ∷ []) ≡ lines (take (i + 1) words)
 unfolding lines
-lines_end words i h = rw (drop_of_length-le words h)
-
--- Byte 10 stored behind a text ends its line.
-pub ended : {room left : List ℕ} {at next : ℕ} {text : List ℕ} → Wrote room at text left next → Wrote room at (text ++ 10 ∷ []) (set left next 10) (next + 1)
-ended w = w then record { stored = refl; behind = refl }
-
--- A text that was put at a room's start is shown.
-pub shown_put : {room left : List ℕ} {next : ℕ} {text : List ℕ} → Wrote room 0 text left next → 512 ≤ length room → next ≤ 512
-    → shown text room ≡ record { length = next; room = left }
-unfolding shown
-shown_put {text = text} w wide fits =
-    rw (le-ltb _ _ wide, all_of w (omega (arith, w.behind)), w.behind, zero-add (length text))
+lines_more words i h = rw (add-one, take-suc words i 0 h) (sym (lines_append (take i words) (get_or words i 0 ∷ [])))
 
 -- A text stands at the front of a room, and so long is it.
 pub record Front (text left : List ℕ) (r : ℕ) : Type 0 where

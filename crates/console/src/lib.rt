@@ -1,8 +1,7 @@
 // What the two programs share: standard input read to its end, the texts that they print as bytes in a lent room, and standard output.
 #![tactic(auto)]
 
-ghost use Rattle.std.specs.Prelude.{◌≡◌, [], ◌∷◌, ◌++◌, ◌+◌, ◌*◌, ◌≤◌, length, IfOk, IfSome};
-ghost use Rattle.text.specs.Laid.{Wrote};
+ghost use Rattle.std.specs.Prelude.{◌≡◌, ◌++◌, ◌+◌, ◌*◌, length, IfOk, IfSome};
 ghost use Rattle.text.specs.Decimal.{decimal};
 ghost use Rattle.console.specs.Text.{signed, counts, registers, line, lines, refusal as text_refusal, report as text_report};
 ghost use Rattle.console.specs.Code.Shown.{shown};
@@ -138,101 +137,91 @@ pub fn print(rt: &HostRuntime, program: &[u8], text: &[u8]) -> ExitCode {
     }
 }
 
+// A lent room, and the place behind what was put there.
 // By hand: of a `write!` std's contracts say what is written where it is Ok, and not that it is Ok, as what is promised here needs.
-// Room and place stay two parameters: how much room is asked for differs with each text, so no struct's invariant says it.
-
-// A number in decimal, of at most 20 digits.
-fn put_decimal(room: &mut [u8], at: usize, n: u64) -> usize
-    requires { at + 20 ≤ length room.old }
-    ensures wrote { Wrote room.old at (decimal n) room.new result }
-    ensures upper_bound { result ≤ at + 20 }
-{
-    let mut digits = [0u8; 20];
-    let k = io::decimal(n, &mut digits);
-    text::put(room, at, &digits[..k])
+#[derive(Drop)]
+struct Page<'a> {
+    room: &'a mut [u8],
+    at: usize,
 }
 
-// A label and a number.
-fn put_labelled(room: &mut [u8], at: usize, label: &[u8], n: u64) -> usize
-    requires { at + length label.now + 20 ≤ length room.old }
-    ensures wrote { Wrote room.old at (label.now ++ decimal n) room.new result }
-    ensures upper_bound { result ≤ at + length label.now + 20 }
-{
-    let number = text::put(room, at, label);
-    put_decimal(room, number, n)
-}
+impl Page<'_> {
+    ghost use Rattle.console.specs.Code.Page.{Puts};
 
-// A word as a signed number.
-#[tactic(auto, unfolding(crate::specs::Text::signed))]
-fn put_signed(room: &mut [u8], at: usize, word: u16) -> usize
-    requires { at + 21 ≤ length room.old }
-    ensures wrote { Wrote room.old at (signed word) room.new result }
-    ensures upper_bound { result ≤ at + 21 }
-{
-    if word < 32768 {
-        return put_decimal(room, at, word as u64);
+    // Bytes as they are.
+    fn bytes(&mut self, text: &[u8])
+        ensures { Puts self.old text.now (length text.now) self.new }
+    {
+        self.at = text::put(self.room, self.at, text);
     }
-    put_labelled(room, at, b"-", 65536 - word as u64)
-}
 
-// The answer, the instructions done and the table's cycles, from the start of the room.
-fn put_counts(room: &mut [u8], run: Run) -> usize
-    requires { 81 ≤ length room.old }
-    ensures wrote { Wrote room.old 0 (counts run) room.new result }
-    ensures upper_bound { result ≤ 81 }
-{
-    let done = put_labelled(room, 0, b"answer ", run.answer as u64);
-    let cycles = put_labelled(room, done, b" done ", run.done as u64);
-    put_labelled(room, cycles, b" cycles ", run.cycles)
-}
-
-// The registers.
-fn put_registers(room: &mut [u8], at: usize, run: Run) -> usize
-    requires { at + 73 ≤ length room.old }
-    ensures wrote { Wrote room.old at (registers run) room.new result }
-    ensures upper_bound { result ≤ at + 73 }
-{
-    let pp = put_labelled(room, at, b" cp ", run.cp.0 as u64);
-    let ac = put_labelled(room, pp, b" pp ", run.pp.0 as u64);
-    let value = text::put(room, ac, b" ac ");
-    put_signed(room, value, run.ac)
-}
-
-// The report's first line, from the start of the room.
-fn put_line(room: &mut [u8], run: Run) -> usize
-    requires { 180 ≤ length room.old }
-    ensures wrote { Wrote room.old 0 (line run) room.new result }
-    ensures upper_bound { result ≤ 180 }
-{
-    let cp = put_counts(room, run);
-    let log = put_registers(room, cp, run);
-    let end = put_labelled(room, log, b" log ", run.count as u64);
-    room[end] = 10;
-    end + 1
-}
-
-// A word on a line.
-fn put_word(room: &mut [u8], at: usize, word: u16) -> usize
-    requires { at + 22 ≤ length room.old }
-    ensures wrote { Wrote room.old at (lines (word ∷ [])) room.new result }
-    ensures upper_bound { result ≤ at + 22 }
-{
-    let end = put_signed(room, at, word);
-    room[end] = 10;
-    end + 1
-}
-
-// Each word on a line.
-fn put_words(room: &mut [u8], from: usize, words: &[u16]) -> usize
-    requires { from + 22 * length words.now ≤ length room.old }
-    ensures wrote { Wrote room.old from (lines words.now) room.new result }
-    ensures upper_bound { result ≤ from + 22 * length words.now }
-{
-    let mut at = from;
-    for &word in words {
-        at = put_word(room, at, word);
+    // A number in decimal, of at most 20 digits.
+    fn decimal(&mut self, n: u64)
+        ensures { Puts self.old (decimal n) 20 self.new }
+    {
+        let mut digits = [0u8; 20];
+        let k = io::decimal(n, &mut digits);
+        self.bytes(&digits[..k]);
     }
-    at
+
+    // A label and a number.
+    fn labelled(&mut self, label: &[u8], n: u64)
+        ensures { Puts self.old (label.now ++ decimal n) (length label.now + 20) self.new }
+    {
+        self.bytes(label);
+        self.decimal(n);
+    }
+
+    // A word as a signed number.
+    #[tactic(auto, unfolding(crate::specs::Text::signed))]
+    fn signed(&mut self, word: u16)
+        ensures { Puts self.old (signed word) 21 self.new }
+    {
+        if word < 32768 {
+            self.decimal(word as u64);
+        } else {
+            self.labelled(b"-", 65536 - word as u64);
+        }
+    }
+
+    // The answer, the instructions done and the table's cycles.
+    fn counts(&mut self, run: Run)
+        ensures { Puts self.old (counts run) 81 self.new }
+    {
+        self.labelled(b"answer ", run.answer as u64);
+        self.labelled(b" done ", run.done as u64);
+        self.labelled(b" cycles ", run.cycles);
+    }
+
+    // The registers.
+    fn registers(&mut self, run: Run)
+        ensures { Puts self.old (registers run) 73 self.new }
+    {
+        self.labelled(b" cp ", run.cp.0 as u64);
+        self.labelled(b" pp ", run.pp.0 as u64);
+        self.bytes(b" ac ");
+        self.signed(run.ac);
+    }
+
+    // The report's first line.
+    fn line(&mut self, run: Run)
+        ensures { Puts self.old (line run) 180 self.new }
+    {
+        self.counts(run);
+        self.registers(run);
+        self.labelled(b" log ", run.count as u64);
+        self.bytes(b"\n");
+    }
+
+    // Each word on a line.
+    fn lines(&mut self, words: &[u16])
+        ensures { Puts self.old (lines words.now) (22 * length words.now) self.new }
+    {
+        for &word in words {
+            self.signed(word);
+            self.bytes(b"\n");
+        }
+    }
 }
 
 // The line of a refusal, with the control line where it names one.
@@ -243,13 +232,13 @@ pub fn refusal(answer: u32, line: Option<usize>, room: &mut [u8]) -> usize
     if room.len() < ROOM {
         return 0;
     }
-    let at = put_labelled(room, 0, b"answer ", answer as u64);
-    let end = match line {
-        None => at,
-        Some(line) => put_labelled(room, at, b" line ", line as u64),
-    };
-    room[end] = 10;
-    end + 1
+    let mut page = Page { room, at: 0 };
+    page.labelled(b"answer ", answer as u64);
+    if let Some(line) = line {
+        page.labelled(b" line ", line as u64);
+    }
+    page.bytes(b"\n");
+    page.at
 }
 
 // The report of a run: its line, then each log word on a line.
@@ -260,6 +249,8 @@ pub fn report(run: Run, log: &[u16; 8], room: &mut [u8]) -> usize
     if room.len() < ROOM {
         return 0;
     }
-    let at = put_line(room, run);
-    put_words(room, at, &log[..run.count.min(log.len())])
+    let mut page = Page { room, at: 0 };
+    page.line(run);
+    page.lines(&log[..run.count.min(log.len())]);
+    page.at
 }
