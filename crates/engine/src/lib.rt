@@ -38,8 +38,8 @@ impl From<bus::Refusal> for Refusal {
 
     ghost from_gives = { λ lent refusal. refusal ≡ Lent lent };
 
-    fn from(lent: bus::Refusal) -> Refusal {
-        Refusal::Lent(lent)
+    fn from(refusal: bus::Refusal) -> Refusal {
+        Refusal::Lent(refusal)
     }
 }
 
