@@ -62,6 +62,7 @@ pub struct Moving {
 }
 
 // What F makes of A and B, modulo 65,536.
+// F, SQ and a register's number are any numbers here, as in `alu`, `jumps` and `keeps`: an enum would ask more of the caller.
 #[tactic(auto, unfolding(crate::specs::Result::alu, crate::specs::Result::both))]
 pub fn compute(f: u32, a: u16, b: u16) -> u16
     ensures { result ≡ alu f a b }

@@ -1,4 +1,4 @@
-// The library for C and Rust: each function of the plant's software over numbers and slices.
+// The library for C and Rust: each function of the plant's software over numbers and slices. C has no Result: answers are document 01's numbers.
 #![tactic(auto)]
 
 ghost use Rattle.std.specs.Prelude.{◌≡◌};

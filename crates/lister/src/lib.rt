@@ -47,6 +47,7 @@ impl Refusal {
 const LINE: usize = 44;
 
 // How long the lines of these words are together: known before the room is touched, so that a refusal leaves it as found.
+// A loop of its own beside `put_lines`: one for both would take a closure, and say of any step what these say of a sum and of a room.
 fn lines_length(words: &[u32]) -> usize
     requires { length words.now ≤ 64 }
     ensures { result ≡ length (lines 0 words.now) }

@@ -128,7 +128,7 @@ pub fn cpu_of(registers: [u16; 3], state: [usize; 2]) -> Cpu
     }
 }
 
-// What the interpreter's run left goes back to the caller's lists.
+// What the interpreter's run left goes back to the caller's lists, which C has of other lengths than the engine's.
 pub fn hand_back_interpreter(
     ran: Result<interpreter::Ran, bus::Refusal>,
     registers: &mut [u16; 3],

@@ -4,7 +4,7 @@
 ghost use Rattle.std.specs.Prelude.{◌≡◌};
 ghost use Rattle.word.specs.Number.{field, placed, kept, sum, difference, bytes_of, word_of};
 
-// A line of the control store.
+// A line of the control store. Line and Address share their functions' names and no code: document 01 keeps the two apart all through.
 #[derive(Clone, Copy, Debug, PartialEq, Eq, PartialOrd, Ord)]
 pub struct Line(pub u8);
 
