@@ -1,5 +1,13 @@
 -- What a run is refused for before it begins, of what is lent to it (01, Answer numbers, 1 to 3); each caller puts them in its order.
 use Rattle.std.specs.Prelude.{ℕ, Bool, not, ◌||◌, List, length, ltb, eqb}
+use Rattle.bus.specs.declared.Refusal.{Refusal}
+use Rattle.bus.specs.declared.Refusal.TheVariants.{WrongSize, PastEnd, OutOfRange}
+
+-- The number of each.
+abbrev pub number : Refusal → ℕ
+number WrongSize = 1
+number PastEnd = 2
+number OutOfRange = 3
 
 -- 1: memory not 4,096 words.
 abbrev pub wrong_memory : List ℕ → Bool

@@ -1,7 +1,8 @@
 -- What stops a cycle or an instruction, by its answer number (01, Answer numbers).
-use Rattle.std.specs.Prelude.{ℕ}
+use Rattle.std.specs.Prelude.{ℕ, Option, Some, None, Result}
+use Rattle.word.specs.Answer.{answered}
 use Rattle.bus.specs.declared.Stop.{Stop}
-use Rattle.bus.specs.declared.Stop.TheVariants.{GoesOn, LogFull}
+use Rattle.bus.specs.declared.Stop.TheVariants.{LogFull}
 
 -- Nothing does.
 abbrev pub goes_on : ℕ
@@ -13,5 +14,13 @@ log_full = 5
 
 -- The number of each kind.
 abbrev pub number : Stop → ℕ
-number GoesOn = goes_on
 number LogFull = log_full
+
+-- The number of what stopped it, if anything did.
+abbrev pub number_of : Option Stop → ℕ
+number_of None = goes_on
+number_of (Some stop) = number stop
+
+-- The same of what is carried out or stopped.
+abbrev pub stopped : {A : Type 0} → Result A Stop → ℕ
+stopped result = answered number result

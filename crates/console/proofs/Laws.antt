@@ -62,16 +62,12 @@ lines_end words i h = rw (drop_of_length-le words h)
 pub ended : {room left : List ℕ} {at next : ℕ} {text : List ℕ} → Wrote room at text left next → Wrote room at (text ++ 10 ∷ []) (set left next 10) (next + 1)
 ended w = w then record { stored = refl; behind = refl }
 
--- A text that was put at a room's start is shown; a smaller room is as found.
+-- A text that was put at a room's start is shown.
 pub shown_put : {room left : List ℕ} {next : ℕ} {text : List ℕ} → Wrote room 0 text left next → 512 ≤ length room → next ≤ 512
     → shown text room ≡ record { length = next; room = left }
 unfolding shown
 shown_put {text = text} w wide fits =
     rw (le-ltb _ _ wide, all_of w (omega (arith, w.behind)), w.behind, zero-add (length text))
-
-pub not_shown : (text room : List ℕ) → length room < 512 → shown text room ≡ record { length = 0; room = room }
-unfolding shown
-not_shown text room small = rw (lt-ltb _ _ small)
 
 -- A text stands at the front of a room, and so long is it.
 pub record Front (text left : List ℕ) (r : ℕ) : Type 0 where

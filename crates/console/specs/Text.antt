@@ -1,5 +1,5 @@
 -- What the two programs print (01, Micro text and images, the last two paragraphs): numbers, signed words, answer lines, the report of a run.
-use Rattle.std.specs.Prelude.{ℕ, ◌-◌, cond, List, [], ◌∷◌, ◌++◌, ltb, take}
+use Rattle.std.specs.Prelude.{ℕ, ◌-◌, cond, List, [], ◌∷◌, ◌++◌, ltb, take, Option, Some, None}
 use Prim.Native.String.{String}
 use Rattle.text.specs.Text.{bytes}
 use Rattle.text.specs.Decimal.{decimal}
@@ -13,13 +13,10 @@ signed word = cond (ltb word 32768) (decimal word) (bytes "-" ++ decimal (65536 
 abbrev pub labelled : String → ℕ → List ℕ
 labelled label n = bytes label ++ decimal n
 
--- `answer` and the number.
-unfoldable pub refusal : ℕ → List ℕ
-refusal answer = labelled "answer " answer ++ 10 ∷ []
-
--- The same, and `line` with the line that the answer names.
-unfoldable pub refusal_at : ℕ → ℕ → List ℕ
-refusal_at answer line = labelled "answer " answer ++ labelled " line " line ++ 10 ∷ []
+-- `answer` and the number, and where the answer names a line, `line` with it.
+unfoldable pub refusal : ℕ → Option ℕ → List ℕ
+refusal answer None = labelled "answer " answer ++ 10 ∷ []
+refusal answer (Some line) = labelled "answer " answer ++ labelled " line " line ++ 10 ∷ []
 
 -- Fields: answer number, instructions done, table cycles, registers, log count.
 unfoldable pub counts : Run → List ℕ

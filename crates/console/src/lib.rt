@@ -1,10 +1,10 @@
 // What the two programs share: standard input read to its end, the texts that they print as bytes in a lent room, and standard output.
 #![tactic(auto)]
 
-ghost use Rattle.std.specs.Prelude.{◌≡◌, List, [], ◌∷◌, ◌++◌, ℕ, ◌+◌, ◌*◌, ◌≤◌, length, take};
+ghost use Rattle.std.specs.Prelude.{◌≡◌, [], ◌∷◌, ◌++◌, ◌+◌, ◌*◌, ◌≤◌, length, IfOk, IfSome};
 ghost use Rattle.text.specs.Laid.{Wrote};
 ghost use Rattle.text.specs.Decimal.{decimal};
-ghost use Rattle.console.specs.Text.{signed, counts, registers, line, lines, refusal as text_refusal, refusal_at, report as text_report};
+ghost use Rattle.console.specs.Text.{signed, counts, registers, line, lines, refusal as text_refusal, report as text_report};
 ghost use Rattle.console.specs.Code.Shown.{shown};
 ghost use Rattle.io.specs.Counts.{IsPrefixLen};
 
@@ -21,21 +21,7 @@ const ROOM: usize = 512;
 // The name by which a process opens what its standard output goes to.
 const OUTPUT: &str = "/dev/stdout";
 
-// What came of reading: how many bytes stand at the front of the buffer, and whether a read failed behind them.
-#[derive(Clone, Copy)]
-pub struct Input {
-    pub length: usize,
-    pub failed: bool,
-}
-
-// What came of reading before a failure is said: the failure itself stands in its place.
-#[derive(Clone, Copy)]
-struct Got {
-    length: usize,
-    failure: Option<Error>,
-}
-
-// What the report of a run tells beside the log's words.
+// What the report of a run tells beside the log's words. The answer is document 01's number, since it is printed.
 #[derive(Clone, Copy)]
 pub struct Run {
     pub answer: u32,
@@ -59,10 +45,7 @@ impl fmt::Display for Reason {
         let mut rest: &mut [u8] = &mut room;
         let _ = write!(rest, "{}", self.error);
         let left = rest.len();
-        let text = match str::from_utf8(&room[..256usize.saturating_sub(left)]) {
-            Ok(text) => text,
-            Err(_) => "",
-        };
+        let text = str::from_utf8(&room[..256usize.saturating_sub(left)]).unwrap_or("");
         match text.split_once(" (os error ") {
             Some((words, _)) => write!(f, "{words}"),
             None => write!(f, "{text}"),
@@ -70,41 +53,20 @@ impl fmt::Display for Reason {
     }
 }
 
-// One read; no bytes are the input's end, or that it failed.
-fn read_some(reader: &mut impl Read, part: &mut [u8]) -> Got
-    ensures { IsPrefixLen result.length part.new }
-{
-    match reader.read(part) {
-        Ok(length) => Got {
-            length,
-            failure: None,
-        },
-        Err(error) => Got {
-            length: 0,
-            failure: Some(error),
-        },
-    }
-}
-
-// An input up to its end, or as much of it as the buffer holds. A read that fails is not the end.
-fn read_all(reader: &mut impl Read, buffer: &mut [u8]) -> Got
-    ensures { IsPrefixLen result.length buffer.new }
+// An input up to its end, or as much of it as the buffer holds: how many bytes stand at the buffer's front. A read that fails is not the end.
+fn read_all(reader: &mut impl Read, buffer: &mut [u8]) -> std::io::Result<usize>
+    ensures counted { IfOk result (λ n. IsPrefixLen n buffer.new) }
+    ensures kept { length buffer.new ≡ length buffer.old }
 {
     let mut done: usize = 0;
     while done < buffer.len() {
-        let piece = read_some(reader, &mut buffer[done..]);
-        if piece.length == 0 {
-            return Got {
-                length: done,
-                failure: piece.failure,
-            };
+        let count = reader.read(&mut buffer[done..])?;
+        if count == 0 {
+            break;
         }
-        done += piece.length;
+        done += count;
     }
-    Got {
-        length: done,
-        failure: None,
-    }
+    Ok(done)
 }
 
 // Writes a text to standard output, and fails where bytes were lost. Of none, a closed output is told by the copy of its descriptor that cannot be made.
@@ -150,18 +112,18 @@ fn say_failed(rt: &HostRuntime, program: &[u8], stream: &[u8], error: Error) {
     let _ = writeln!(out, ": {reason}");
 }
 
-// A program's input: `read_all` of standard input, with a failure said.
-pub fn read_input(rt: &HostRuntime, program: &[u8], buffer: &mut [u8]) -> Input
-    ensures { IsPrefixLen result.length buffer.new }
+// A program's input: `read_all` of standard input. Of a read that failed, which is said, nothing is given.
+pub fn read_input(rt: &HostRuntime, program: &[u8], buffer: &mut [u8]) -> Option<usize>
+    ensures counted { IfSome result (λ n. IsPrefixLen n buffer.new) }
+    ensures kept { length buffer.new ≡ length buffer.old }
 {
     let mut reader = rt.stdin();
-    let got = read_all(&mut reader, buffer);
-    if let Some(error) = got.failure {
-        say_failed(rt, program, b": standard input", error);
-    }
-    Input {
-        length: got.length,
-        failed: got.failure.is_some(),
+    match read_all(&mut reader, buffer) {
+        Ok(length) => Some(length),
+        Err(error) => {
+            say_failed(rt, program, b": standard input", error);
+            None
+        }
     }
 }
 
@@ -175,6 +137,9 @@ pub fn print(rt: &HostRuntime, program: &[u8], text: &[u8]) -> ExitCode {
         }
     }
 }
+
+// By hand: of a `write!` std's contracts say what is written where it is Ok, and not that it is Ok, as what is promised here needs.
+// Room and place stay two parameters: how much room is asked for differs with each text, so no struct's invariant says it.
 
 // A number in decimal, of at most 20 digits.
 fn put_decimal(room: &mut [u8], at: usize, n: u64) -> usize
@@ -264,50 +229,31 @@ fn put_words(room: &mut [u8], from: usize, words: &[u16]) -> usize
     ensures upper_bound { result ≤ from + 22 * length words.now }
 {
     let mut at = from;
-    let mut i: usize = 0;
-    while i < words.len() {
-        at = put_word(room, at, words[i]);
-        i += 1;
+    for &word in words {
+        at = put_word(room, at, word);
     }
     at
 }
 
-// The line of a refusal.
-pub fn refusal(answer: u32, room: &mut [u8]) -> usize
-    ensures { shown (text_refusal answer) room.old ≡ record { length = result; room = room.new } }
-{
-    if room.len() < ROOM {
-        return 0;
-    }
-    let end = put_labelled(room, 0, b"answer ", answer as u64);
-    room[end] = 10;
-    end + 1
-}
-
-// The line of a refusal that names a control line.
-pub fn refusal_at(answer: u32, line: usize, room: &mut [u8]) -> usize
-    ensures { shown (refusal_at answer line) room.old ≡ record { length = result; room = room.new } }
+// The line of a refusal, with the control line where it names one.
+#[tactic(auto, unfolding(crate::specs::Code::Shown::shown))]
+pub fn refusal(answer: u32, line: Option<usize>, room: &mut [u8]) -> usize
+    ensures { shown (text_refusal answer line) room.old ≡ record { length = result; room = room.new } }
 {
     if room.len() < ROOM {
         return 0;
     }
     let at = put_labelled(room, 0, b"answer ", answer as u64);
-    let end = put_labelled(room, at, b" line ", line as u64);
+    let end = match line {
+        None => at,
+        Some(line) => put_labelled(room, at, b" line ", line as u64),
+    };
     room[end] = 10;
     end + 1
 }
 
-// How many words the log's room holds of this many.
-fn held(count: usize) -> usize
-    ensures { (result ≤ 8) × ((log : List ℕ) → length log ≡ 8 → take result log ≡ take count log) }
-{
-    if count < 8 {
-        return count;
-    }
-    8
-}
-
 // The report of a run: its line, then each log word on a line.
+#[tactic(auto, unfolding(crate::specs::Code::Shown::shown))]
 pub fn report(run: Run, log: &[u16; 8], room: &mut [u8]) -> usize
     ensures { shown (text_report run log.now) room.old ≡ record { length = result; room = room.new } }
 {
@@ -315,7 +261,5 @@ pub fn report(run: Run, log: &[u16; 8], room: &mut [u8]) -> usize
         return 0;
     }
     let at = put_line(room, run);
-    let words: &[u16] = log;
-    let count = held(run.count);
-    put_words(room, at, &words[..count])
+    put_words(room, at, &log[..run.count.min(log.len())])
 }

@@ -3,16 +3,17 @@ use Prim.Native.Nat.{ℕ, ◌+◌, ◌^◌, ◌<◌}
 use mathlib.Core.Path.{◌≡◌, refl, sym, ◌∙◌, ap, subst}
 use mathlib.Core.Bool.{Bool, true, false, cond, not, ◌&&◌, true≢false}
 use mathlib.Core.List.{List}
+use Rattle.std.specs.Prelude.{Result, Ok, Err}
 use lib.ListN.{get_or, set}
 use lib.Seq.{set-set, set-get_or}
 use lib.Dec.{eqb}
-use borrow.Author.Tests.{eqb-true}
 use Rattle.turns.specs.Turns.{Turn, settled}
 use Rattle.bus.specs.declared.Stop.{Stop}
 use Rattle.bus.specs.Stops.{number}
-use Rattle.bus.proofs.Laws.{number_only}
+use Rattle.bus.specs.declared.Stop.TheVariants.{LogFull}
+use Rattle.bus.proofs.Laws.{result_only}
 use Rattle.datapath.specs.declared.Half.{Half}
-use Rattle.datapath.specs.declared.Moved.{Moved}
+use Rattle.datapath.specs.declared.Moving.{Moving}
 use Rattle.datapath.specs.declared.Half.TheVariants.{Nothing}
 use Rattle.datapath.specs.Transfer.{Transfer, moved, waits, transferred, left_in}
 use Rattle.datapath.proofs.Laws.{transfer_refused, rdm_stays}
@@ -25,21 +26,21 @@ use Rattle.word.proofs.Laws.{kept_below}
 use Rattle.word.proofs.Tests.{either}
 use Rattle.cycle.specs.Cycle.{State, result, stored, found, transfer, target, next_line, arrived, driven, cycle_on}
 use Rattle.cycle.specs.Code.Standing.{stepped, Beginning, beginning_on, beginning}
-use Rattle.cycle.specs.declared.Stepped.{Stepped}
+use Rattle.cycle.specs.declared.Standing.{Standing}
 
-stepped_only : {line line' place place' count count' : ℕ} {half half' : Half} (stop stop' : Stop) → line ≡ line' → half ≡ half' → place ≡ place' → count ≡ count'
-    → number stop ≡ number stop'
-    → ◌≡◌ {A = Stepped} (record { line = record { 0 = line }; half = half; place = place; count = count; stop = stop })
-    (record { line = record { 0 = line' }; half = half'; place = place'; count = count'; stop = stop' })
-stepped_only stop stop' p q r t e = rw (p, q, r, t, number_only stop stop' e)
+standing_only : {line line' place place' count count' : ℕ} {half half' : Half} → line ≡ line' → half ≡ half' → place ≡ place' → count ≡ count'
+    → ◌≡◌ {A = Standing} (record { line = record { 0 = line }; half = half; place = place; count = count })
+    (record { line = record { 0 = line' }; half = half'; place = place'; count = count' })
+standing_only p q r t = rw (p, q, r, t)
 
 -- No second answer: a cycle's promise fixes what it hands back and all three lent lists.
-pub step_only : {d : Turn State} {r r' : Stepped} {registers registers' memory memory' log log' : List ℕ} → d ≡ stepped r registers memory log
-    → d ≡ stepped r' registers' memory' log' → (r ≡ r') × (registers ≡ registers') × (memory ≡ memory') × (log ≡ log')
-step_only {r = r} {r' = r'} p q =
+pub step_only : {d : Turn State} (before : Standing) (r r' : Result Standing Stop) {registers registers' memory memory' log log' : List ℕ} → d ≡ stepped before r registers memory log
+    → d ≡ stepped before r' registers' memory' log' → (r ≡ r') × (registers ≡ registers') × (memory ≡ memory') × (log ≡ log')
+step_only before r r' p q =
     let e = sym p ∙ q in (
-      stepped_only r.stop r'.stop (ap (λ (c : Turn State). c.next.line) e) (ap (λ (c : Turn State). c.next.half) e) (ap (λ (c : Turn State). c.next.place) e)
-          (ap (λ (c : Turn State). c.next.count) e) (ap (λ (c : Turn State). c.stop) e),
+      result_only before r r'
+          (standing_only (ap (λ (c : Turn State). c.next.line) e) (ap (λ (c : Turn State). c.next.half) e) (ap (λ (c : Turn State). c.next.place) e)
+          (ap (λ (c : Turn State). c.next.count) e)) (ap (λ (c : Turn State). c.stop) e),
       ap (λ (c : Turn State). c.next.registers) e,
       ap (λ (c : Turn State). c.next.memory) e,
       ap (λ (c : Turn State). c.next.log) e,
@@ -73,29 +74,35 @@ module _ (bits : ℕ) (m : Fields) (input : List ℕ) (s : State) {b : Beginning
       subst (λ (x : Beginning). set x.registers x.fields.s x.stood ≡ s.registers) first
       (restored m (result m s.registers) s.registers (eqb m.hs 1) refl)
 
-  module _ (r : Moved) {memory log : List ℕ} (moves : transferred (eqb b.fields.rd 1) (eqb b.fields.wr 1) input s.half (found b.registers s) ≡ moved r memory log) where
+  module _ (memory log : List ℕ) where
+    abbrev before : Moving
+    before = record { rdm = get_or b.registers 7 0; half = s.half; place = s.place; count = s.count }
+
+    abbrev moves : Result Moving Stop → Type 0
+    moves r = transferred (eqb b.fields.rd 1) (eqb b.fields.wr 1) input s.half (found b.registers s) ≡ moved before r memory log
+
     -- Without RD the transfer's RDM is the one that stands there.
-    same_rdm : (rd : Bool) → eqb b.fields.rd 1 ≡ rd → cond rd (set b.registers 7 r.rdm) b.registers ≡ set b.registers 7 r.rdm
-    same_rdm true e = refl
-    same_rdm false e =
-        let w : r.rdm ≡ get_or b.registers 7 0 = sym (ap (λ (x : Transfer). x.rdm) (rw e at moves)) ∙ rdm_stays (eqb b.fields.wr 1) input s.half (found b.registers s) in
+    same_rdm : (r : Moving) → moves (Ok r) → (rd : Bool) → eqb b.fields.rd 1 ≡ rd → cond rd (set b.registers 7 r.rdm) b.registers ≡ set b.registers 7 r.rdm
+    same_rdm r m true e = refl
+    same_rdm r m false e =
+        let w : r.rdm ≡ get_or b.registers 7 0 = sym (ap (λ (x : Transfer). x.rdm) (rw e at m)) ∙ rdm_stays (eqb b.fields.wr 1) input s.half (found b.registers s) in
         rw w (sym (set-get_or b.registers 7 0))
 
-    pub carried : eqb (number r.stop) 0 ≡ true
+    pub carried : (r : Moving) → moves (Ok r)
         → cycle_on bits m input s
         ≡ record { next = record { line = b.next; registers = cond (eqb b.fields.rd 1) (set b.registers 7 r.rdm) b.registers; half = r.half; place = r.place; count = r.count; memory = memory; log = log }; stop = 0; cost = 1 }
     unfolding settled transfer
-    carried f = rw (goes_on, moves, f, same_rdm _ refl, eqb-true (number r.stop) 0 f)
+    carried r m = rw (goes_on, m, same_rdm r m _ refl)
 
     -- A refused transfer leaves memory and log as they were.
-    pub refused : eqb (number r.stop) 0 ≡ false
+    pub refused : (stop : Stop) → moves (Err stop)
         → cycle_on bits m input s
-        ≡ record { next = record { line = s.line; registers = set b.registers b.fields.s b.stood; half = s.half; place = s.place; count = s.count; memory = memory; log = log }; stop = number r.stop; cost = cond (eqb (number r.stop) 0) 1 0 }
+        ≡ record { next = record { line = s.line; registers = set b.registers b.fields.s b.stood; half = s.half; place = s.place; count = s.count; memory = memory; log = log }; stop = number stop; cost = cond (eqb (number stop) 0) 1 0 }
     unfolding settled transfer
-    refused f =
-        let e : left_in (moved r memory log) ≡ record { memory = s.memory; log = s.log; count = s.count; stop = number r.stop } =
-        rw moves at (transfer_refused (eqb b.fields.rd 1) (eqb b.fields.wr 1) input s.half (found b.registers s) (ap (λ (x : Transfer). eqb x.stop 0) moves ∙ f)) in
-        rw (goes_on, moves, f, put_back, ap (λ (x : Left). x.memory) e, ap (λ (x : Left). x.log) e)
+    refused LogFull m =
+        let e : left_in (moved before (Err LogFull) memory log) ≡ record { memory = s.memory; log = s.log; count = s.count; stop = 5 } =
+        rw m at (transfer_refused (eqb b.fields.rd 1) (eqb b.fields.wr 1) input s.half (found b.registers s) (ap (λ (x : Transfer). eqb x.stop 0) m)) in
+        rw (goes_on, m, put_back, ap (λ (x : Left). x.memory) e, ap (λ (x : Left). x.log) e)
 
   -- Without RD and WR nothing is transferred, and RDM is what stands there.
   pub rests : (not (eqb b.fields.rd 1) && not (eqb b.fields.wr 1)) ≡ true

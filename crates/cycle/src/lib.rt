@@ -1,14 +1,13 @@
 // One cycle of the machine, driven by one control word.
 #![tactic(auto)]
 
-ghost use Rattle.std.specs.Prelude.{◌≡◌, cond, eqb, set, ◌<◌};
-ghost use Rattle.bus.specs.declared.Stop.TheVariants.{GoesOn};
-ghost use Rattle.datapath.specs.declared.Half.TheVariants.{Nothing};
+ghost use Rattle.std.specs.Prelude.{◌≡◌, ◌<◌};
 ghost use Rattle.cycle.specs.Cycle.{stored, next_line, cycle_of};
 ghost use Rattle.cycle.specs.Code.Standing.{standing, stepped, beginning, began};
+ghost use Rattle.bus.specs.Code.Lent.{Stays};
 
-use bus::Stop;
-use datapath::Half;
+use bus::{Bus, Stop};
+use datapath::{Half, Moving};
 use microword::Fields;
 use word::{Address, Line};
 
@@ -16,16 +15,17 @@ const REM: usize = 6;
 
 const RDM: usize = 7;
 
-// What a cycle leaves beside registers, memory and log, and what stops it.
+// What a cycle changes beside registers, memory and log: the control line, the input place, what is half done and the log count.
+// Line and half done stand apart: side by side the compiler packs them into one processor register and takes them apart in each cycle.
 #[derive(Clone, Copy)]
-pub struct Stepped {
+pub struct Standing {
     pub line: Line,
-    pub half: Half,
     pub place: usize,
+    pub half: Half,
     pub count: usize,
-    pub stop: Stop,
 }
 
+#[tactic(auto, unfolding(crate::specs::Cycle::next_line, crate::specs::Cycle::target))]
 fn next_line(m: Fields, value: u16, line: Line) -> Line
     requires { m.end < 64 }
     ensures { result.0 ≡ next_line 6 m value line.0 }
@@ -37,6 +37,7 @@ fn next_line(m: Fields, value: u16, line: Line) -> Line
 }
 
 // If HS, the value is stored to S.
+#[tactic(auto, unfolding(crate::specs::Cycle::stored))]
 fn store_value(m: Fields, value: u16, registers: &mut [u16; 8])
     requires { m.s < 8 }
     ensures { registers.new ≡ stored m value registers.old }
@@ -44,28 +45,6 @@ fn store_value(m: Fields, value: u16, registers: &mut [u16; 8])
     if m.hs == 1 {
         let s = m.s as usize;
         registers[s] = datapath::keep_in(m.s, value);
-    }
-}
-
-// Only a cycle with RD can change RDM by its transfer: the others need not touch it.
-fn arrive(rd: u32, word: u16, registers: &mut [u16; 8])
-    ensures { registers.new ≡ cond (eqb rd 1) (set registers.old 7 word) registers.old }
-{
-    if rd == 1 {
-        registers[RDM] = word;
-    }
-}
-
-// A cycle with neither RD nor WR leaves nothing half done.
-fn rest(line: Line, place: usize, count: usize) -> Stepped
-    ensures { result ≡ record { line = line; half = Nothing; place = place; count = count; stop = GoesOn } }
-{
-    Stepped {
-        line,
-        half: Half::Nothing,
-        place,
-        count,
-        stop: Stop::GoesOn,
     }
 }
 
@@ -95,54 +74,46 @@ fn begin(word: u32, line: Line, registers: &mut [u16; 8]) -> Begun
 // One cycle, driven by a control word, on what is lent; a refused one leaves everything as it was.
 pub fn step(
     word: u32,
-    memory: &mut [u16],
-    input: &[u16],
-    log: &mut [u16],
+    before: Standing,
     registers: &mut [u16; 8],
-    line: Line,
-    half: Half,
-    place: usize,
-    count: usize,
-) -> Stepped
-    ensures { cycle_of word input.now (standing line half place count registers.old memory.old log.old) ≡ stepped result registers.new memory.new log.new }
+    bus: &mut Bus,
+) -> Result<Standing, Stop>
+    ensures stays { Stays bus.old bus.new }
+    ensures steps { cycle_of word bus.old.input.now (standing before registers.old bus.old.memory.now bus.old.log.now) ≡ stepped before result registers.new bus.new.memory.now bus.new.log.now }
 {
-    let first = begin(word, line, registers);
+    let first = begin(word, before.line, registers);
     let m = first.m;
-    let next = first.next;
+    // A cycle with neither RD nor WR leaves nothing half done.
     if (m.rd != 1) & (m.wr != 1) {
-        return rest(next, place, count);
+        return Ok(Standing {
+            line: first.next,
+            half: Half::Nothing,
+            ..before
+        });
     }
-    let moved = datapath::transfer(
-        m.rd == 1,
-        m.wr == 1,
-        half,
-        Address(registers[REM]),
-        registers[RDM],
-        memory,
-        input,
-        log,
-        place,
-        count,
-    );
-    let stop = moved.stop;
-    if !stop.goes_on() {
-        let s = m.s as usize;
-        registers[s] = first.old;
-        return Stepped {
-            line,
-            half,
-            place,
-            count,
-            stop,
-        };
-    }
-    arrive(m.rd, moved.rdm, registers);
-    let half = moved.half;
-    Stepped {
-        line: next,
-        half,
-        place: moved.place,
-        count: moved.count,
-        stop: Stop::GoesOn,
+    let moving = Moving {
+        rdm: registers[RDM],
+        half: before.half,
+        place: before.place,
+        count: before.count,
+    };
+    let rem = Address(registers[REM]);
+    match datapath::transfer(m.rd == 1, m.wr == 1, rem, moving, bus) {
+        Ok(moved) => {
+            // Only a cycle with RD can change RDM by its transfer: the others need not touch it.
+            if m.rd == 1 {
+                registers[RDM] = moved.rdm;
+            }
+            Ok(Standing {
+                line: first.next,
+                half: moved.half,
+                place: moved.place,
+                count: moved.count,
+            })
+        }
+        Err(stop) => {
+            registers[m.s as usize] = first.old;
+            Err(stop)
+        }
     }
 }

@@ -3,31 +3,30 @@ use Prim.Native.Nat.{ℕ, ◌-◌, ◌≤◌}
 use mathlib.Core.Path.{◌≡◌, refl, sym, ◌∙◌, ap}
 use mathlib.Core.Bool.{Bool, true, false, cond, true≢false}
 use mathlib.Core.List.{List}
+use Rattle.std.specs.Prelude.{Result}
 use native.Mathlib.Omega.{arith}
 use lib.ListN.{length}
 use lib.Dec.{eqb}
 use Rattle.bus.specs.Log.{after, to_log}
 use Rattle.bus.specs.declared.Stop.{Stop}
-use Rattle.bus.specs.Stops.{number}
-use Rattle.bus.proofs.Laws.{stop_of, number_only, Kind, leaves, has_room, write_kind}
+use Rattle.bus.proofs.Laws.{stop_of, result_only, Kind, leaves, has_room, write_kind}
 use Rattle.datapath.specs.Result.{jumps}
 use Rattle.datapath.specs.Transfer.{Found, Transfer, moved, waits, completed_read, completed_write, read_cycle, write_cycle, transferred, completes, sends, found_in, left_in}
 use Rattle.datapath.specs.declared.Half.{Half}
 use Rattle.datapath.specs.declared.Half.TheVariants.{Nothing, Read, Write}
-use Rattle.datapath.specs.declared.Moved.{Moved}
+use Rattle.datapath.specs.declared.Moving.{Moving}
 
-moved_only : {rdm rdm' place place' count count' : ℕ} {half half' : Half} (stop stop' : Stop) → rdm ≡ rdm' → half ≡ half' → place ≡ place' → count ≡ count'
-    → number stop ≡ number stop'
-    → ◌≡◌ {A = Moved} (record { rdm = rdm; half = half; place = place; count = count; stop = stop })
-    (record { rdm = rdm'; half = half'; place = place'; count = count'; stop = stop' })
-moved_only stop stop' p q r t e = rw (p, q, r, t, number_only stop stop' e)
+moving_only : {rdm rdm' place place' count count' : ℕ} {half half' : Half} → rdm ≡ rdm' → half ≡ half' → place ≡ place' → count ≡ count'
+    → ◌≡◌ {A = Moving} (record { rdm = rdm; half = half; place = place; count = count }) (record { rdm = rdm'; half = half'; place = place'; count = count' })
+moving_only p q r t = rw (p, q, r, t)
 
 -- No second answer: a transfer's promise fixes the answer and both lent lists.
-pub transfer_only : {d : Transfer} {r r' : Moved} {memory memory' log log' : List ℕ} → d ≡ moved r memory log → d ≡ moved r' memory' log'
+pub transfer_only : {d : Transfer} (before : Moving) (r r' : Result Moving Stop) {memory memory' log log' : List ℕ} → d ≡ moved before r memory log → d ≡ moved before r' memory' log'
     → (r ≡ r') × (memory ≡ memory') × (log ≡ log')
-transfer_only {r = r} {r' = r'} p q =
+transfer_only before r r' p q =
     let e = sym p ∙ q in (
-      moved_only r.stop r'.stop (ap (λ (t : Transfer). t.rdm) e) (ap (λ (t : Transfer). t.half) e) (ap (λ (t : Transfer). t.place) e) (ap (λ (t : Transfer). t.count) e)
+      result_only (record before { half = Nothing }) r r'
+          (moving_only (ap (λ (t : Transfer). t.rdm) e) (ap (λ (t : Transfer). t.half) e) (ap (λ (t : Transfer). t.place) e) (ap (λ (t : Transfer). t.count) e))
           (ap (λ (t : Transfer). t.stop) e),
       ap (λ (t : Transfer). t.memory) e,
       ap (λ (t : Transfer). t.log) e,

@@ -1,12 +1,14 @@
 -- The memory transfer, which takes two cycles (01, One cycle).
-use Rattle.std.specs.Prelude.{ℕ, Bool, cond, List, [], ◌∷◌, length, ltb}
+use Rattle.std.specs.Prelude.{ℕ, Bool, Result, cond, List, [], ◌∷◌, length, ltb}
 use Rattle.bus.specs.declared.Fetched.{Fetched}
-use Rattle.bus.specs.Stops.{goes_on, number}
+use Rattle.bus.specs.declared.Stop.{Stop}
+use Rattle.bus.specs.Stops.{goes_on, stopped}
+use Rattle.bus.specs.Code.Gives.{gives}
 use Rattle.bus.specs.Log.{Sent}
 use Rattle.bus.specs.Ports.{Left, read_at, write_at}
 use Rattle.datapath.specs.declared.Half.{Half}
 use Rattle.datapath.specs.declared.Half.TheVariants.{Nothing, Read, Write}
-use Rattle.datapath.specs.declared.Moved.{Moved}
+use Rattle.datapath.specs.declared.Moving.{Moving}
 
 -- What a transfer finds: REM and RDM as they stand after this cycle's store, the input place, the log count, memory and log.
 pub record Found : Type 0 where
@@ -27,10 +29,11 @@ pub record Transfer : Type 0 where
   pub log : List ℕ
   pub stop : ℕ
 
--- A transfer as the code hands it back, with the lent memory and log.
-abbrev pub moved : Moved → List ℕ → List ℕ → Transfer
-moved m memory log =
-    record { rdm = m.rdm; half = m.half; place = m.place; count = m.count; memory = memory; log = log; stop = number m.stop }
+-- A transfer as the code hands it back, with the lent memory and log; refused it leaves nothing half done.
+abbrev pub moved : Moving → Result Moving Stop → List ℕ → List ℕ → Transfer
+moved before result memory log =
+    let m : Moving = gives (record before { half = Nothing }) result in
+    record { rdm = m.rdm; half = m.half; place = m.place; count = m.count; memory = memory; log = log; stop = stopped result }
 
 -- Nothing is completed, and this is left half done.
 unfoldable pub waits : Half → Found → Transfer

@@ -3,31 +3,62 @@
 
 ghost use Rattle.std.specs.Prelude.{◌≡◌};
 ghost use Rattle.datapath.specs.Result.{alu, negative, is_zero, jumps, keeps};
-ghost use Rattle.datapath.specs.Transfer.{read_cycle, write_cycle, transferred, moved};
-ghost use Rattle.bus.specs.declared.Stop.TheVariants.{GoesOn};
+ghost use Rattle.datapath.specs.Transfer.{transferred, moved};
+ghost use Rattle.bus.specs.Code.Lent.{Stays};
 
-use bus::Stop;
+use bus::{Bus, Stop};
 use word::Address;
 
-// The bits that each register keeps: of CP, PP and REM the low 12.
-const KEPT: [u16; 8] = [4095, 65535, 4095, 65535, 65535, 65535, 4095, 65535];
-
 // What a cycle leaves half done.
-#[derive(Clone, Copy)]
+#[derive(Clone, Copy, Debug, PartialEq, Eq)]
 pub enum Half {
     Nothing,
     Read,
     Write,
 }
 
-// What a transfer leaves beside memory and log, and what stops the machine before it.
+// A number that says nothing of what is half done.
+#[derive(Clone, Copy, Debug, PartialEq, Eq)]
+pub struct UnknownHalf(pub usize);
+
+impl From<Half> for usize {
+    ghost use Rattle.datapath.specs.Halves.{half_number};
+
+    ghost from_gives = { λ half n. n ≡ half_number half };
+
+    fn from(half: Half) -> usize {
+        match half {
+            Half::Nothing => 0,
+            Half::Read => 1,
+            Half::Write => 2,
+        }
+    }
+}
+
+impl TryFrom<usize> for Half {
+    type Error = UnknownHalf;
+
+    ghost use Rattle.datapath.specs.Halves.{Numbers};
+
+    ghost try_from_gives = { Numbers };
+
+    fn try_from(number: usize) -> Result<Self, UnknownHalf> {
+        match number {
+            0 => Ok(Half::Nothing),
+            1 => Ok(Half::Read),
+            2 => Ok(Half::Write),
+            _ => Err(UnknownHalf(number)),
+        }
+    }
+}
+
+// What a transfer changes beside memory and log: RDM, what is half done, the input place and the log count.
 #[derive(Clone, Copy)]
-pub struct Moved {
+pub struct Moving {
     pub rdm: u16,
     pub half: Half,
     pub place: usize,
     pub count: usize,
-    pub stop: Stop,
 }
 
 // What F makes of A and B, modulo 65,536.
@@ -48,113 +79,71 @@ pub fn compute(f: u32, a: u16, b: u16) -> u16
 }
 
 // What a register keeps of a value: CP, PP and REM the low 12 bits.
+#[tactic(auto, unfolding(crate::specs::Result::keeps))]
 pub fn keep_in(register: u32, value: u16) -> u16
     ensures { result ≡ keeps register value }
 {
-    if 8 <= register {
-        return value;
+    match register {
+        0 | 2 | 6 => Address::of(value).0,
+        _ => value,
     }
-    let k = register as usize;
-    value & KEPT[k]
 }
 
 // Whether SQ sends this cycle to END, by N and Z of its full result.
+#[tactic(auto, unfolding(crate::specs::Result::jumps))]
 pub fn does_jump(sq: u32, res: u16) -> bool
     ensures { result ≡ jumps sq (negative res) (is_zero res) }
 {
-    if 3 <= sq {
-        return true;
-    }
-    ((sq == 1) & (32768 <= res)) | ((sq == 2) & (res == 0))
-}
-
-fn left(half: Half, rdm: u16, place: usize, count: usize) -> Moved
-    ensures { result ≡ record { rdm = rdm; half = half; place = place; count = count; stop = GoesOn } }
-{
-    Moved {
-        rdm,
-        half,
-        place,
-        count,
-        stop: Stop::GoesOn,
+    match sq {
+        0 => false,
+        1 => 32768 <= res,
+        2 => res == 0,
+        _ => true,
     }
 }
 
-// A cycle with RD: completes a read that was left half done, else leaves one half done.
-#[tactic(auto, unfolding(crate::specs::Transfer::read_cycle, crate::specs::Transfer::completed_read, crate::specs::Transfer::waits))]
-fn read_cycle(
-    half: Half,
-    rem: Address,
-    rdm: u16,
-    memory: &[u16],
-    input: &[u16],
-    log: &[u16],
-    place: usize,
-    count: usize,
-) -> Moved
-    ensures { read_cycle input.now half (record { rem = rem.0; rdm = rdm; place = place; count = count; memory = memory.now; log = log.now }) ≡ moved result memory.now log.now }
-{
-    match half {
-        Half::Read => {
-            let got = bus::read(memory, input, place, count < log.len(), rem);
-            left(Half::Nothing, got.word, got.place, count)
-        }
-        Half::Nothing => left(Half::Read, rdm, place, count),
-        Half::Write => left(Half::Read, rdm, place, count),
-    }
-}
-
-// A cycle with WR: completes a write that was left half done, else leaves one half done.
-#[tactic(auto, unfolding(crate::specs::Transfer::write_cycle, crate::specs::Transfer::completed_write, crate::specs::Transfer::waits))]
-fn write_cycle(
-    half: Half,
-    rem: Address,
-    rdm: u16,
-    memory: &mut [u16],
-    log: &mut [u16],
-    place: usize,
-    count: usize,
-) -> Moved
-    ensures { write_cycle half (record { rem = rem.0; rdm = rdm; place = place; count = count; memory = memory.old; log = log.old }) ≡ moved result memory.new log.new }
-{
-    match half {
-        Half::Write => {
-            let done = bus::write(memory, log, count, rem, rdm);
-            let stop = done.stop;
-            Moved {
-                rdm,
-                half: Half::Nothing,
-                place,
-                count: done.count,
-                stop,
-            }
-        }
-        Half::Nothing => left(Half::Write, rdm, place, count),
-        Half::Read => left(Half::Write, rdm, place, count),
-    }
-}
-
-// A cycle's transfer, with REM and RDM as they stand after its store.
-#[tactic(auto, unfolding(crate::specs::Transfer::transferred, crate::specs::Transfer::waits))]
+// A cycle's transfer, with REM and RDM as they stand after its store. A cycle with RD completes a read that was left half done, else
+// leaves one half done; WR likewise for writes; a cycle with neither leaves nothing half done.
+#[tactic(auto, unfolding(crate::specs::Transfer::transferred, crate::specs::Transfer::read_cycle, crate::specs::Transfer::completed_read, crate::specs::Transfer::write_cycle, crate::specs::Transfer::completed_write, crate::specs::Transfer::waits))]
 pub fn transfer(
     rd: bool,
     wr: bool,
-    half: Half,
     rem: Address,
-    rdm: u16,
-    memory: &mut [u16],
-    input: &[u16],
-    log: &mut [u16],
-    place: usize,
-    count: usize,
-) -> Moved
-    ensures { transferred rd wr input.now half (record { rem = rem.0; rdm = rdm; place = place; count = count; memory = memory.old; log = log.old }) ≡ moved result memory.new log.new }
+    before: Moving,
+    bus: &mut Bus,
+) -> Result<Moving, Stop>
+    ensures stays { Stays bus.old bus.new }
+    ensures moves { transferred rd wr bus.old.input.now before.half (record { rem = rem.0; rdm = before.rdm; place = before.place; count = before.count; memory = bus.old.memory.now; log = bus.old.log.now }) ≡ moved before result bus.new.memory.now bus.new.log.now }
 {
-    if rd {
-        return read_cycle(half, rem, rdm, memory, input, log, place, count);
+    match (rd, wr, before.half) {
+        (true, _, Half::Read) => {
+            let got = bus.read(before.place, before.count, rem);
+            Ok(Moving {
+                rdm: got.word,
+                half: Half::Nothing,
+                place: got.place,
+                ..before
+            })
+        }
+        (true, _, _) => Ok(Moving {
+            half: Half::Read,
+            ..before
+        }),
+        (false, true, Half::Write) => {
+            let count = bus.write(before.count, rem, before.rdm)?;
+            Ok(Moving {
+                half: Half::Nothing,
+                count,
+                ..before
+            })
+        }
+        (false, true, _) => Ok(Moving {
+            half: Half::Write,
+            ..before
+        }),
+        (false, false, _) => Ok(Moving {
+            half: Half::Nothing,
+            ..before
+        }),
     }
-    if wr {
-        return write_cycle(half, rem, rdm, memory, log, place, count);
-    }
-    left(Half::Nothing, rdm, place, count)
 }

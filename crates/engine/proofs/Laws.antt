@@ -1,63 +1,45 @@
--- Laws of a run on its way: how it begins by the check's answer, goes on, stops and ends, with the cycles' worth left out of what is told.
-use Prim.Native.Nat.{ℕ, ◌+◌, ◌-◌, ◌<◌, ◌≤◌}
-use mathlib.Core.Path.{◌≡◌, refl, ap}
-use mathlib.Core.Bool.{true, false}
-use mathlib.Core.List.{List}
-use lib.Dec.{eqb}
-use native.Mathlib.Nat.{add-zero}
-use native.Mathlib.Omega.{arith}
-use borrow.Author.Tests.{eqb-true, ne_eqb}
-use Rattle.turns.specs.Turns.{Turn, plus, turns, checked}
+-- Laws of a run on its way: how it begins by the check's result, goes on, stops and ends, with the cycles' worth left out of what is told.
+use Rattle.std.proofs.Common.{◌≡◌, ℕ, ◌+◌, ◌-◌, ◌<◌, ◌≤◌, List, false, eqb, ap, ◌∙◌, arith}
+use native.Mathlib.Nat.{sub-zero}
+use Rattle.turns.specs.Turns.{Turn, plus, checked}
 use Rattle.turns.proofs.Laws as T
 use Rattle.store.specs.Store.{control_word}
 use Rattle.cycle.specs.Cycle.{State, cycle_of}
-use Rattle.engine.specs.Run.{number, named, saying, refusal, Ended, cycle, cycles, ended, runs}
-use Rattle.engine.specs.declared.Answer.{Answer}
-use Rattle.engine.specs.declared.Answer.TheVariants.{Finished, WrongSize, PastEnd, OutOfRange, BadWord}
+use Rattle.engine.specs.Run.{number, named, says, refusal, Ended, cycle, cycles, ended, runs}
+use Rattle.engine.specs.declared.Refusal.{Refusal}
+use Rattle.bus.specs.declared.Refusal.TheVariants.{WrongSize, PastEnd, OutOfRange}
+use Rattle.engine.specs.declared.Refusal.TheVariants.{Lent, BadWord}
 
--- At the beginning all of a run's cycles are left to do.
-pub begins : (store input : List ℕ) (n : ℕ) (s : State) → ended 0 (cycles store input n s) ≡ ended 0 (plus (n - n) 0 (cycles store input n s))
-begins store input n s = let none : n - n ≡ 0 = omega arith in rw (none, T.plus_none)
+-- At the beginning none of a run's cycles is done.
+pub begins : (store input : List ℕ) (n : ℕ) (s : State) → ended 0 (cycles store input n s) ≡ ended 0 (plus 0 0 (cycles store input (n - 0) s))
+begins store input n s = rw (sub-zero, T.plus_none)
 
--- A run of n cycles of which `left` are left to do, at a cycle that is carried out, at one that is refused, and at its end.
-module _ (store input : List ℕ) (n left : ℕ) (s : State) where
-  pub goes_on : {word : ℕ} {a : Turn State} → left ≤ n → 0 < left → cycle_of word input s ≡ a → word ≡ control_word store s.line → eqb a.stop 0 ≡ true
-      → ended 0 (plus (n - left) 0 (cycles store input left s)) ≡ ended 0 (plus (n - (left - 1)) 0 (cycles store input (left - 1) a.next))
+-- A run of n cycles of which some are done, at a cycle that is carried out, at one that is refused, and at its end.
+module _ (store input : List ℕ) (n done : ℕ) (s : State) where
+  pub goes_on : {a : Turn State} → done < n → cycle_of (control_word store s.line) input s ≡ a → a.stop ≡ 0
+      → ended 0 (plus done 0 (cycles store input (n - done) s)) ≡ ended 0 (plus (done + 1) 0 (cycles store input (n - (done + 1)) a.next))
   unfolding cycles ended plus
-  goes_on {word} {a} l h e w f =
-      let here : n - (n - left) ≡ left = omega arith in
-      let there : n - (n - left + 1) ≡ left - 1 = omega arith in
-      let one : n - left + 1 ≡ n - (left - 1) = omega arith in
-      rw (here, there, one) at (ap (ended 0) (T.goes_on (cycle store input) s {n = n} {done = n - left} 0 {t = a} (omega arith) (rw (← w) e) (eqb-true a.stop 0 f)))
+  goes_on {a} h e f = ap (ended 0) (T.goes_on (cycle store input) s {n = n} {done = done} 0 {t = a} h e f)
 
-  pub stops : {word : ℕ} {a : Turn State} → left ≤ n → 0 < left → cycle_of word input s ≡ a → word ≡ control_word store s.line → eqb a.stop 0 ≡ false
-      → ended 0 (plus (n - left) 0 (cycles store input left s)) ≡ record { state = a.next; done = n - left; said = record { number = a.stop; line = 0 } }
+  pub stops : {a : Turn State} → done < n → cycle_of (control_word store s.line) input s ≡ a → eqb a.stop 0 ≡ false
+      → ended 0 (plus done 0 (cycles store input (n - done) s)) ≡ record { state = a.next; done = done; said = says a.stop }
   unfolding cycles ended
-  stops {word} {a} l h e w f =
-      let here : n - (n - left) ≡ left = omega arith in
-      rw here at (ap (ended 0) (T.stops (cycle store input) s {n = n} {done = n - left} 0 {t = a} (omega arith) (rw (← w) e) f))
+  stops {a} h e f = ap (ended 0) (T.stops (cycle store input) s {n = n} {done = done} 0 {t = a} h e f)
 
-  pub ends : left ≤ 0 → ended 0 (plus (n - left) 0 (cycles store input left s)) ≡ record { state = s; done = n; said = record { number = 0; line = 0 } }
-  unfolding cycles ended plus turns
-  ends h =
-      let none : left ≡ 0 = omega arith in
-      let all : n - 0 ≡ n = omega arith in
-      rw (none, all, add-zero)
+  pub ends : n ≤ done → done ≤ n → ended 0 (plus done 0 (cycles store input (n - done) s)) ≡ record { state = s; done = n; said = says 0 }
+  unfolding cycles ended
+  ends h k = let all : done ≡ n = omega arith in ap (ended 0) (T.ends (cycle store input) s {n = n} {done = done} 0 h) ∙ rw all
 
--- An answer of number 0 names no line.
-unnamed : (a : Answer) → number a ≡ 0 → named a ≡ 0
-unnamed (Finished stop) e = refl
-unnamed WrongSize e = refl
-unnamed PastEnd e = refl
-unnamed OutOfRange e = refl
-unnamed (BadWord k) e = absurd (omega (arith, e))
-
--- The check's answer lets the cycles run where its number is 0; any other is handed on with everything as found.
-module _ (a : Answer) (store input : List ℕ) (n : ℕ) (s : State) (e : saying a ≡ refusal store input s) where
-  pub lets_run : {x : Ended} → number a ≡ 0 → ended 0 (cycles store input n s) ≡ x → runs store input n s ≡ x
+-- Where the check refuses nothing the cycles run; what it refuses is handed on with everything as found.
+module _ (store input : List ℕ) (n : ℕ) (s : State) where
+  pub lets_run : {x : Ended} → says 0 ≡ refusal store input s → ended 0 (cycles store input n s) ≡ x → runs store input n s ≡ x
   unfolding runs checked cycles
-  lets_run z p = rw (← e, z, unnamed a z) p
+  lets_run e p = rw (← e) p
 
-  pub refuses : (number a ≡ 0 → ⊥) → runs store input n s ≡ record { state = s; done = 0; said = saying a }
+  pub refuses : (r : Refusal) → record { number = number r; line = named r } ≡ refusal store input s
+      → runs store input n s ≡ record { state = s; done = 0; said = record { number = number r; line = named r } }
   unfolding runs checked ended
-  refuses z = rw (← e, ne_eqb (number a) 0 z)
+  refuses (Lent WrongSize) e = rw (← e)
+  refuses (Lent PastEnd) e = rw (← e)
+  refuses (Lent OutOfRange) e = rw (← e)
+  refuses (BadWord line) e = rw (← e)

@@ -1,25 +1,27 @@
 -- Laws of the engine's runs: what a run does to memory and log, and no second answer.
 use Prim.Native.Nat.{ℕ, ◌-◌, ◌≤◌}
 use mathlib.Core.Path.{◌≡◌, refl, sym, ◌∙◌, ap}
-use mathlib.Core.Bool.{false, cond}
+use mathlib.Core.Bool.{cond}
 use mathlib.Core.List.{List, ◌++◌}
+use Rattle.std.specs.Prelude.{Option, Result, Ok, Err}
 use native.Mathlib.Omega.{arith}
 use lib.ListN.{length, get_or, take, drop, length-append}
 use lib.Seq.{take_all}
 use lib.Dec.{eqb}
-use borrow.Author.Tests.{ne_eqb}
-use Rattle.bus.specs.Stops.{number}
+use Rattle.bus.specs.Stops.{number_of}
 use Rattle.bus.specs.Ports.{Left}
 use Rattle.bus.specs.Log.{after, to_log, room, Took}
-use Rattle.bus.proofs.Laws.{stop_of, stop_back, number_apart, kept, after_append, after_ports, to_log_append}
+use Rattle.bus.specs.declared.Stop.{Stop}
+use Rattle.bus.specs.declared.Refusal.TheVariants.{WrongSize, PastEnd, OutOfRange}
+use Rattle.bus.proofs.Laws.{number_only, number_apart, kept, after_append, after_ports, to_log_append}
 use Rattle.microword.specs.Microword.{fields_of}
 use Rattle.turns.proofs.Laws as T
 use Rattle.store.specs.Store.{control_word}
 use Rattle.cycle.specs.Cycle.{State, written_by}
 use Rattle.cycle.proofs.Writes.{held, stays, cycle_writes, cycle_fits}
-use Rattle.engine.specs.Run.{Said, saying, Ended, cycle, cycles, writes, ended_by}
-use Rattle.engine.specs.declared.Answer.{Answer}
-use Rattle.engine.specs.declared.Answer.TheVariants.{Finished, WrongSize, PastEnd, OutOfRange, BadWord}
+use Rattle.engine.specs.Run.{number, named, Said, Ended, cycle, cycles, writes, ended_by}
+use Rattle.engine.specs.declared.Refusal.{Refusal}
+use Rattle.engine.specs.declared.Refusal.TheVariants.{Lent, BadWord}
 use Rattle.engine.specs.declared.Machine.{Machine}
 use Rattle.engine.specs.declared.Ran.{Ran}
 
@@ -71,40 +73,61 @@ run_log store input n s h =
       size = t.size;
     }
 
--- The answer that an answer number and a line stand for.
-answer_of : Said → Answer
-answer_of s =
-    cond (eqb s.number 1) WrongSize
-    (cond (eqb s.number 2) PastEnd
-    (cond (eqb s.number 3) OutOfRange
-    (cond (eqb s.number 4) (BadWord (record { 0 = s.line }))
-    (Finished (stop_of s.number)))))
+-- The refusal that an answer number and a line stand for.
+refusal_of : Said → Refusal
+refusal_of s =
+    cond (eqb s.number 1) (Lent WrongSize)
+    (cond (eqb s.number 2) (Lent PastEnd)
+    (cond (eqb s.number 3) (Lent OutOfRange)
+    (BadWord (record { 0 = s.line }))))
 
-answer_back : (answer : Answer) → answer_of (saying answer) ≡ answer
-unfolding answer_of
-answer_back (Finished stop) =
-    let apart : (k : ℕ) → 1 ≤ k → k ≤ 4 → eqb (number stop) k ≡ false = λ k l h. ne_eqb (number stop) k (number_apart stop k l h) in
-    rw (apart 1 (omega arith) (omega arith), apart 2 (omega arith) (omega arith), apart 3 (omega arith) (omega arith), apart 4 (omega arith) (omega arith), stop_back stop)
-answer_back WrongSize = refl
-answer_back PastEnd = refl
-answer_back OutOfRange = refl
-answer_back (BadWord line) = refl
+abbrev pub told_by : Refusal → Said
+told_by r = record { number = number r; line = named r }
 
--- Each answer has a number and a line of its own.
-pub same_answer : (answer answer' : Answer) → saying answer ≡ saying answer' → answer ≡ answer'
-same_answer answer answer' e = sym (answer_back answer) ∙ ap answer_of e ∙ answer_back answer'
+refusal_back : (r : Refusal) → refusal_of (told_by r) ≡ r
+unfolding refusal_of
+refusal_back (Lent WrongSize) = refl
+refusal_back (Lent PastEnd) = refl
+refusal_back (Lent OutOfRange) = refl
+refusal_back (BadWord line) = refl
+
+-- Each refusal has a number and a line of its own.
+pub same_refusal : (r r' : Refusal) → told_by r ≡ told_by r' → r ≡ r'
+same_refusal r r' e = sym (refusal_back r) ∙ ap refusal_of e ∙ refusal_back r'
 
 -- The machine record of a state; a control line is fixed by its number.
 abbrev pub machine_in : State → Machine
 machine_in s = record { line = record { 0 = s.line }; registers = s.registers; half = s.half; place = s.place; count = s.count }
 
+-- No number of a refusal is that of a run that is done or stopped.
+pub apart : (stop : Option Stop) (r : Refusal) → number_of stop ≡ number r → ⊥
+apart stop (Lent WrongSize) e = number_apart stop 1 (omega arith) (omega arith) e
+apart stop (Lent PastEnd) e = number_apart stop 2 (omega arith) (omega arith) e
+apart stop (Lent OutOfRange) e = number_apart stop 3 (omega arith) (omega arith) e
+apart stop (BadWord line) e = number_apart stop 4 (omega arith) (omega arith) e
+
+same_result : (machine : Machine) (r r' : Result Ran Refusal) (memory memory' log log' : List ℕ) → ended_by machine r memory log ≡ ended_by machine r' memory' log' → r ≡ r'
+same_result machine (Ok ran) (Ok ran') memory memory' log log' e =
+    rw (← number_only ran.stop ran'.stop (ap (λ (x : Ended). x.said.number) e))
+    (ap (λ (x : Ended). Ok (record { machine = machine_in x.state; done = x.done; stop = ran.stop })) e)
+same_result machine (Ok ran) (Err r') memory memory' log log' e = absurd (apart ran.stop r' (ap (λ (x : Ended). x.said.number) e))
+same_result machine (Err r) (Ok ran') memory memory' log log' e = absurd (apart ran'.stop r (sym (ap (λ (x : Ended). x.said.number) e)))
+same_result machine (Err r) (Err r') memory memory' log log' e = ap (λ (x : Refusal). Err x) (same_refusal r r' (ap (λ (x : Ended). x.said) e))
+
+ended_memory : (machine : Machine) (r : Result Ran Refusal) (memory log : List ℕ) → (ended_by machine r memory log).state.memory ≡ memory
+ended_memory machine (Ok ran) memory log = refl
+ended_memory machine (Err r) memory log = refl
+
+ended_log : (machine : Machine) (r : Result Ran Refusal) (memory log : List ℕ) → (ended_by machine r memory log).state.log ≡ log
+ended_log machine (Ok ran) memory log = refl
+ended_log machine (Err r) memory log = refl
+
 -- No second answer: a run's promise fixes the answer, the count, the machine and both lent lists.
-pub run_only : {d : Ended} {r r' : Ran} {memory memory' log log' : List ℕ} → d ≡ ended_by r memory log → d ≡ ended_by r' memory' log'
+pub run_only : {d : Ended} (machine : Machine) (r r' : Result Ran Refusal) {memory memory' log log' : List ℕ} → d ≡ ended_by machine r memory log → d ≡ ended_by machine r' memory' log'
     → (r ≡ r') × (memory ≡ memory') × (log ≡ log')
-run_only {d} {r} {r'} p q =
-    let e = sym p ∙ q in
-    let a : r.answer ≡ r'.answer = same_answer r.answer r'.answer (ap (λ (x : Ended). x.said) e) in (
-      rw (← a) (ap (λ (x : Ended). record { machine = machine_in x.state; done = x.done; answer = r.answer }) e),
-      ap (λ (x : Ended). x.state.memory) e,
-      ap (λ (x : Ended). x.state.log) e,
+run_only machine r r' {memory} {memory'} {log} {log'} p q =
+    let e = sym p ∙ q in (
+      same_result machine r r' memory memory' log log' e,
+      sym (ended_memory machine r memory log) ∙ ap (λ (x : Ended). x.state.memory) e ∙ ended_memory machine r' memory' log',
+      sym (ended_log machine r memory log) ∙ ap (λ (x : Ended). x.state.log) e ∙ ended_log machine r' memory' log',
     )

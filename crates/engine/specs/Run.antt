@@ -1,13 +1,15 @@
 -- A run of cycles: the refusals before it, the cycles in turn, and what it answers (01, Instructions; Answer numbers).
-use Rattle.std.specs.Prelude.{ℕ, ◌-◌, ◌^◌, Bool, cond, ◌||◌, List, ltb}
+use Rattle.std.specs.Prelude.{ℕ, ◌-◌, ◌^◌, Option, Some, None, Result, Ok, Err, Bool, cond, ◌||◌, List, ltb}
 use Rattle.turns.specs.Turns.{Turn, Turned, turns, checked, told}
-use Rattle.bus.specs.Stops as stops
+use Rattle.word.specs.declared.Line.{Line}
+use Rattle.bus.specs.Stops.{number_of}
+use Rattle.bus.specs.Refusals as lent
 use Rattle.bus.specs.Refusals.{wrong_memory, past_end, outside}
 use Rattle.bus.specs.Log.{Sent}
 use Rattle.store.specs.Store.{wrong_store, control_word, first_bad}
 use Rattle.cycle.specs.Cycle.{State, register, cycle_of, written_by}
-use Rattle.engine.specs.declared.Answer.{Answer}
-use Rattle.engine.specs.declared.Answer.TheVariants.{Finished, WrongSize, PastEnd, OutOfRange, BadWord}
+use Rattle.engine.specs.declared.Refusal.{Refusal}
+use Rattle.engine.specs.declared.Refusal.TheVariants.{Lent, BadWord}
 use Rattle.engine.specs.declared.Machine.{Machine}
 use Rattle.engine.specs.declared.Ran.{Ran}
 
@@ -19,23 +21,23 @@ pub record Said : Type 0 where
 abbrev pub says : ℕ → Said
 says number = record { number = number; line = 0 }
 
--- The number of each answer of the code, and the line that it names.
-abbrev pub number : Answer → ℕ
-number (Finished stop) = stops.number stop
-number WrongSize = 1
-number PastEnd = 2
-number OutOfRange = 3
-number (BadWord k) = 4
+-- The number of each refusal of the code, and the line that it names.
+abbrev pub number : Refusal → ℕ
+number (Lent refusal) = lent.number refusal
+number (BadWord line) = 4
 
-abbrev pub named : Answer → ℕ
-named (Finished stop) = 0
-named WrongSize = 0
-named PastEnd = 0
-named OutOfRange = 0
-named (BadWord k) = k.0
+abbrev pub named_line : Refusal → Option Line
+named_line (Lent refusal) = None
+named_line (BadWord line) = Some line
 
-abbrev pub saying : Answer → Said
-saying answer = record { number = number answer; line = named answer }
+abbrev pub named : Refusal → ℕ
+named (Lent refusal) = 0
+named (BadWord line) = line.0
+
+-- What is said of a call that is done or refused.
+abbrev pub saying : {A : Type 0} → Result A Refusal → Said
+saying (Ok done) = says 0
+saying (Err refusal) = record { number = number refusal; line = named refusal }
 
 -- Order for a run: 1, 2, 3, 4, before any cycle; 0 lets it run. Lines have so many bits; whether the control store has the wrong size,
 -- and its first bad line, are known.
@@ -89,6 +91,8 @@ state_of m memory log =
       log = log;
     }
 
--- What the code's run hands back, with the lent lists.
-abbrev pub ended_by : Ran → List ℕ → List ℕ → Ended
-ended_by r memory log = record { state = state_of r.machine memory log; done = r.done; said = saying r.answer }
+-- What the code's run hands back, with the lent lists: what it did, or its refusal of the machine that was lent.
+abbrev pub ended_by : Machine → Result Ran Refusal → List ℕ → List ℕ → Ended
+ended_by machine (Ok ran) memory log = record { state = state_of ran.machine memory log; done = ran.done; said = says (number_of ran.stop) }
+ended_by machine (Err refusal) memory log =
+    record { state = state_of machine memory log; done = 0; said = record { number = number refusal; line = named refusal } }

@@ -2,9 +2,11 @@
 #![tactic(auto)]
 
 ghost use Rattle.std.specs.Prelude.{◌≡◌};
-ghost use Rattle.engine.specs.Run.{number, named, saying, refusal, cycles, ended, runs, state_of, ended_by};
+ghost use Rattle.engine.specs.Run.{number, named_line, saying, refusal, cycles, ended, runs, state_of, ended_by};
+ghost use Rattle.bus.specs.Code.Lent.{Stays};
 
-use bus::Stop;
+use bus::{Bus, Stop};
+use cycle::Standing;
 use datapath::Half;
 use word::Line;
 
@@ -24,151 +26,128 @@ pub struct Machine {
     pub count: usize,
 }
 
-// What a run comes to: it is finished, done or stopped, or was refused before its first cycle.
-#[derive(Clone, Copy)]
-pub enum Answer {
-    Finished(Stop),
-    WrongSize,
-    PastEnd,
-    OutOfRange,
+// What a run is refused for before its first cycle.
+#[derive(Clone, Copy, Debug, PartialEq, Eq)]
+pub enum Refusal {
+    Lent(bus::Refusal),
     BadWord(Line),
 }
 
-impl Answer {
-    // Document 01's number.
-    pub fn number(self) -> u32
-        ensures { result ≡ number self }
-    {
-        match self {
-            Answer::Finished(stop) => stop.number(),
-            Answer::WrongSize => 1,
-            Answer::PastEnd => 2,
-            Answer::OutOfRange => 3,
-            Answer::BadWord(_) => 4,
-        }
-    }
+impl From<bus::Refusal> for Refusal {
+    ghost use Rattle.engine.specs.declared.Refusal.TheVariants.{Lent};
 
-    // The line that it names, else 0.
-    pub fn line(self) -> usize
-        ensures { result ≡ named self }
-    {
-        match self {
-            Answer::BadWord(line) => line.0 as usize,
-            _ => 0,
+    ghost from_gives = { λ lent refusal. refusal ≡ Lent lent };
+
+    fn from(lent: bus::Refusal) -> Refusal {
+        Refusal::Lent(lent)
+    }
+}
+
+impl From<Refusal> for u32 {
+    ghost from_gives = { λ refusal n. n ≡ number refusal };
+
+    fn from(refusal: Refusal) -> u32 {
+        match refusal {
+            Refusal::Lent(lent) => lent.into(),
+            Refusal::BadWord(_) => 4,
         }
     }
 }
 
+impl Refusal {
+    // The line that it names.
+    pub fn line(self) -> Option<Line>
+        ensures { result ≡ named_line self }
+    {
+        match self {
+            Refusal::Lent(_) => None,
+            Refusal::BadWord(line) => Some(line),
+        }
+    }
+}
+
+// A run that was not refused: the machine at its end, the cycles carried out, and what stopped it.
 #[derive(Clone, Copy)]
 pub struct Ran {
     pub machine: Machine,
     pub done: u32,
-    pub answer: Answer,
+    pub stop: Option<Stop>,
 }
 
-// Refusals 1 to 4, in order, or nothing to refuse.
+// Refusals 1 to 4, in order.
 #[tactic(auto, unfolding(crate::specs::Run::refusal, crate::specs::Run::refusal_by))]
-fn check(store: &[u32], memory: &[u16], input: &[u16], log: &[u16], machine: Machine) -> Answer
+fn check(
+    store: &[u32],
+    memory: &[u16],
+    input: &[u16],
+    log: &[u16],
+    machine: Machine,
+) -> Result<(), Refusal>
     ensures { saying result ≡ refusal store.now input.now (state_of machine memory.now log.now) }
 {
-    if bus::is_wrong_memory(memory) | store::is_wrong(store) {
-        return Answer::WrongSize;
+    if bus::is_wrong_memory(memory) || store::is_wrong(store) {
+        return Err(Refusal::Lent(bus::Refusal::WrongSize));
     }
     if bus::is_past_end(input, machine.place, log, machine.count) {
-        return Answer::PastEnd;
+        return Err(Refusal::Lent(bus::Refusal::PastEnd));
     }
     let registers = machine.registers;
-    let line = machine.line;
-    if (4095 < registers[CP]) | (4095 < registers[PP]) | (4095 < registers[REM]) | (63 < line.0) {
-        return Answer::OutOfRange;
+    if bus::is_outside(registers[CP])
+        || bus::is_outside(registers[PP])
+        || bus::is_outside(registers[REM])
+        || 63 < machine.line.0
+    {
+        return Err(Refusal::Lent(bus::Refusal::OutOfRange));
     }
-    let bad = store::first_bad(store);
-    if bad < 64 {
-        return Answer::BadWord(Line(bad as u8));
+    match store::first_bad(store) {
+        Some(line) => Err(Refusal::BadWord(Line(line as u8))),
+        None => Ok(()),
     }
-    Answer::Finished(Stop::GoesOn)
 }
 
-fn report(
-    line: Line,
-    half: Half,
-    place: usize,
-    count: usize,
-    registers: [u16; 8],
-    done: u32,
-    answer: Answer,
-) -> Ran
-    ensures { result ≡ record { machine = record { line = line; registers = registers; half = half; place = place; count = count }; done = done; answer = answer } }
+// The machine record, put together again.
+fn machine_of(at: Standing, registers: [u16; 8]) -> Machine
+    ensures { result ≡ record { line = at.line; registers = registers; half = at.half; place = at.place; count = at.count } }
 {
-    Ran {
-        machine: Machine {
-            line,
-            registers,
-            half,
-            place,
-            count,
-        },
-        done,
-        answer,
+    Machine {
+        line: at.line,
+        registers,
+        half: at.half,
+        place: at.place,
+        count: at.count,
     }
 }
 
 // n cycles in turn. What a cycle changes stands in variables of its own, which the compiler keeps in registers.
-fn repeat(
-    store: &[u32],
-    memory: &mut [u16],
-    input: &[u16],
-    log: &mut [u16],
-    machine: Machine,
-    n: u32,
-) -> Ran
-    ensures { ended 0 (cycles store.now input.now n (state_of machine memory.old log.old)) ≡ ended_by result memory.new log.new }
+fn repeat(store: &[u32], bus: &mut Bus, machine: Machine, n: u32) -> Ran
+    ensures stays { Stays bus.old bus.new }
+    ensures repeats { ended 0 (cycles store.now bus.old.input.now n (state_of machine bus.old.memory.now bus.old.log.now)) ≡ ended_by machine (Ok result) bus.new.memory.now bus.new.log.now }
 {
     let mut registers = machine.registers;
-    let mut line = machine.line;
-    let mut half = machine.half;
-    let mut place = machine.place;
-    let mut count = machine.count;
-    let mut left = n;
-    while 0 < left {
-        let t = cycle::step(
-            store::word_at(store, line),
-            memory,
-            input,
-            log,
-            &mut registers,
-            line,
-            half,
-            place,
-            count,
-        );
-        line = t.line;
-        half = t.half;
-        place = t.place;
-        count = t.count;
-        let stop = t.stop;
-        if !stop.goes_on() {
-            return report(
-                line,
-                half,
-                place,
-                count,
-                registers,
-                n - left,
-                Answer::Finished(stop),
-            );
+    let mut at = Standing {
+        line: machine.line,
+        half: machine.half,
+        place: machine.place,
+        count: machine.count,
+    };
+    for done in 0..n {
+        let word = store::word_at(store, at.line);
+        match cycle::step(word, at, &mut registers, bus) {
+            Ok(next) => at = next,
+            Err(stop) => {
+                return Ran {
+                    machine: machine_of(at, registers),
+                    done,
+                    stop: Some(stop),
+                };
+            }
         }
-        left -= 1;
     }
-    report(
-        line,
-        half,
-        place,
-        count,
-        registers,
-        n,
-        Answer::Finished(Stop::GoesOn),
-    )
+    Ran {
+        machine: machine_of(at, registers),
+        done: n,
+        stop: None,
+    }
 }
 
 // A run of n cycles: refusals 1 to 4 before any cycle, then the cycles in turn.
@@ -179,17 +158,10 @@ pub fn run(
     log: &mut [u16],
     machine: Machine,
     n: u32,
-) -> Ran
-    ensures { runs store.now input.now n (state_of machine memory.old log.old) ≡ ended_by result memory.new log.new }
+) -> Result<Ran, Refusal>
+    ensures { runs store.now input.now n (state_of machine memory.old log.old) ≡ ended_by machine result memory.new log.new }
 {
-    let answer = check(store, memory, input, log, machine);
-    if answer.number() == 0 {
-        repeat(store, memory, input, log, machine, n)
-    } else {
-        Ran {
-            machine,
-            done: 0,
-            answer,
-        }
-    }
+    check(store, memory, input, log, machine)?;
+    let mut bus = Bus { memory, input, log };
+    Ok(repeat(store, &mut bus, machine, n))
 }

@@ -6,10 +6,15 @@ use mathlib.Core.List.{List}
 use lib.Dec.{eqb}
 use Rattle.turns.specs.Turns.{Turn, Turned, turns, checked, onwards, plus}
 use Rattle.cycle.specs.Cycle.{State}
-use Rattle.engine.specs.Run.{number, ended, cycle, refusal, runs, ended_by}
-use Rattle.panel.specs.Press.{Press, press, pressed_by}
+use Rattle.std.specs.Prelude.{Result, Ok, Err}
+use Rattle.bus.specs.declared.Refusal.TheVariants.{WrongSize, PastEnd, OutOfRange}
+use Rattle.engine.specs.declared.Machine.{Machine}
+use Rattle.engine.specs.declared.Refusal.{Refusal}
+use Rattle.engine.specs.declared.Refusal.TheVariants.{Lent, BadWord}
+use Rattle.engine.specs.Run.{ended, cycle, refusal, runs, ended_by}
+use Rattle.panel.specs.Press.{Press, press, passed_by}
 use Rattle.panel.specs.declared.Pressed.{Pressed}
-use Rattle.engine.specs.declared.Ran.{Ran}
+use Rattle.lists.specs.Engine.{counted}
 use Rattle.microassembler.specs.Assembled.{Outcome}
 use Rattle.image.specs.Image.{Reading}
 use Rattle.facetgrove.specs.Rooms.{Filled}
@@ -30,15 +35,27 @@ once store input s = by (refusal store input s).number (eqb (refusal store input
     by refused true e t false f = rw f
     by refused false e t goes f = rw e
 
--- A press, with the count that the run of 1 has, is what that run hands back.
-pub pressed : (store input memory log : List ℕ) (s : State) (p : Pressed) {ran : Ran} → press store input s ≡ pressed_by p.answer p.machine memory log
-    → ran ≡ record { machine = p.machine; done = cond (eqb (number p.answer) 0) 1 0; answer = p.answer }
-    → runs store input 1 s ≡ ended_by ran memory log
+-- A press, counted, is what the run of 1 hands back.
+pub pressed : (store input memory log : List ℕ) (m : Machine) (s : State) (p : Result Pressed Refusal) → press store input s ≡ passed_by m p memory log
+    → runs store input 1 s ≡ ended_by m (counted p) memory log
 unfolding press
-pressed store input memory log s p e same =
+pressed store input memory log m s p e =
     ap (λ (done : ℕ). record { state = (runs store input 1 s).state; done = done; said = (runs store input 1 s).said }) (once store input s)
     ∙ ap (λ (q : Press). record { state = q.state; done = cond (eqb q.said.number 0) 1 0; said = q.said }) e
-    ∙ ap (λ (r : Ran). ended_by r memory log) (sym same)
+    ∙ with_count p
+  where
+    with_count : (p : Result Pressed Refusal)
+        → record {
+          state = (passed_by m p memory log).state;
+          done = cond (eqb (passed_by m p memory log).said.number 0) 1 0;
+          said = (passed_by m p memory log).said;
+        }
+        ≡ ended_by m (counted p) memory log
+    with_count (Ok pressed) = refl
+    with_count (Err (Lent WrongSize)) = refl
+    with_count (Err (Lent PastEnd)) = refl
+    with_count (Err (Lent OutOfRange)) = refl
+    with_count (Err (BadWord line)) = refl
 
 -- No second answer: a call's equation fixes the answer and every lent list; of a run, `called_only` of `lists` says it.
 -- Of a listing and of an image written:

@@ -9,6 +9,7 @@ ghost use Rattle.facetgrove.specs.Runs.{engine_called, interpreter_called};
 ghost use Rattle.facetgrove.specs.Rooms.{list_called, write_called};
 
 // A run of the engine.
+#[tactic(auto, unfolding(crate::specs::Runs::engine_called))]
 #[unsafe(no_mangle)]
 pub extern "C" fn facetgrove_engine_run(
     store: &[u32],
@@ -47,6 +48,7 @@ pub extern "C" fn facetgrove_press(
 }
 
 // A run of the interpreter.
+#[tactic(auto, unfolding(crate::specs::Runs::interpreter_called))]
 #[unsafe(no_mangle)]
 pub extern "C" fn facetgrove_interpreter_run(
     memory: &mut [u16],
@@ -69,13 +71,11 @@ pub extern "C" fn facetgrove_interpreter_run(
 pub extern "C" fn facetgrove_micro_assemble(text: &[u8], store: &mut [u32]) -> u32
     ensures { assembled text.now store.old ≡ record { answer = result; store = store.new } }
 {
-    match microassembler::assemble(text, store) {
-        Ok(()) => 0,
-        Err(refusal) => u32::from(refusal),
-    }
+    lists::answer_of(microassembler::assemble(text, store))
 }
 
 // A control store's listing, at the start of the room.
+#[tactic(auto, unfolding(crate::specs::Rooms::list_called))]
 #[unsafe(no_mangle)]
 pub extern "C" fn facetgrove_micro_list(
     store: &[u32],
@@ -85,9 +85,11 @@ pub extern "C" fn facetgrove_micro_list(
     ensures { list_called store.now room.old ≡ record { answer = result; room = room.new; told = told.new } }
 {
     let listed = lister::list(store, room);
-    let answer = listed.answer;
-    *told = [listed.length, answer.line()];
-    answer.number()
+    *told = match listed {
+        Ok(length) => [length, 0],
+        Err(refusal) => [0, refusal.line().map_or(0, |line| line.0 as usize)],
+    };
+    lists::answer_of(listed)
 }
 
 // An image to a memory.
@@ -95,11 +97,11 @@ pub extern "C" fn facetgrove_micro_list(
 pub extern "C" fn facetgrove_image_read(image: &[u8], memory: &mut [u16]) -> u32
     ensures { reading image.now memory.old ≡ record { answer = result; memory = memory.new } }
 {
-    let answer = image::read(image, memory);
-    answer.number()
+    lists::answer_of(image::read(image, memory))
 }
 
 // A memory's image, at the start of the room.
+#[tactic(auto, unfolding(crate::specs::Rooms::write_called))]
 #[unsafe(no_mangle)]
 pub extern "C" fn facetgrove_image_write(
     memory: &[u16],
@@ -109,9 +111,8 @@ pub extern "C" fn facetgrove_image_write(
     ensures { write_called memory.now room.old ≡ record { answer = result; room = room.new; told = length.new } }
 {
     let written = image::write(memory, room);
-    let answer = written.answer;
-    *length = [written.length];
-    answer.number()
+    *length = [written.unwrap_or(0)];
+    lists::answer_of(written)
 }
 
 // The printed microprogram.
@@ -119,6 +120,5 @@ pub extern "C" fn facetgrove_image_write(
 pub extern "C" fn facetgrove_printed_store(store: &mut [u32; 64])
     ensures { store.new ≡ printed }
 {
-    let printed = printed::store();
-    *store = printed;
+    *store = printed::store();
 }

@@ -1,18 +1,20 @@
 -- The laws of images: the longest one, both ways round, and that no second answer satisfies a promise.
 use Prim.Native.Nat.{ℕ, ◌%◌, ◌≤◌, ◌<◌}
-use mathlib.Core.Path.{◌≡◌, refl, sym, ◌∙◌, ap, ap₂}
+use mathlib.Core.Path.{◌≡◌, refl, sym, ◌∙◌, ap}
+use Rattle.std.proofs.Common.{Result}
 use mathlib.Core.List.{List, [], ◌++◌}
 use native.Mathlib.Omega.{arith}
 use lib.ListN.{length, get_or, take, drop, replicate, length-append, length-take, replicate-append-replicate}
 use lib.Seq.{length-take-le, take-append_seam, take_at}
 use lib.Dec.{eqb}
 use borrow.Author.Tests.{eq-eqb, le-ltb}
-use Rattle.image.specs.Answers.{number}
+use Rattle.std.specs.Result.{result_unwrap_or}
+use Rattle.word.specs.Answer.{answered}
+use Rattle.image.specs.Refusals.{number}
 use Rattle.image.specs.Records.{records, laid, records_from}
-use Rattle.image.specs.Image.{examined, memory_of, Reading, answered, reading, image_of, Writing, filled, writing}
-use Rattle.image.specs.declared.Answer.{Answer}
-use Rattle.image.specs.declared.Written.{Written}
-use Rattle.image.proofs.Answers.{one_case}
+use Rattle.image.specs.Image.{examined, memory_of, Reading, left, reading, image_of, Writing, filled, writing}
+use Rattle.image.specs.declared.Refusal.{Refusal}
+use Rattle.image.proofs.Refusals.{one_end}
 use Rattle.image.proofs.Records.{Accepted, accepted, chosen, bytes_length, few_records}
 use Rattle.image.proofs.RoundTrip.{bytes_records, records_bytes, take_below, words_faultless, laid_words, Spread, spread}
 
@@ -53,7 +55,7 @@ module _ (memory : List ℕ) (words : length memory ≡ 4096) (small : (i : ℕ)
 
   image_read : (other : List ℕ) → length other ≡ 4096
       → reading (image_of memory) other ≡ record { answer = 0; memory = take 4092 memory ++ replicate 4 0 }
-  unfolding reading answered memory_of
+  unfolding reading left memory_of
   image_read other size = rw (eq-eqb _ _ size, image_examined, found, laid_all (take 4092 memory) count)
 
   -- Reading what the writer wrote gives back words 0 to 4,091.
@@ -66,14 +68,14 @@ module _ (memory : List ℕ) (words : length memory ≡ 4096) (small : (i : ℕ)
 -- Writing what was read gives back the same bytes.
 module _ (image memory : List ℕ) (read : (reading image memory).answer ≡ 0) where
   image_accepted : Accepted image
-  unfolding reading answered
+  unfolding reading left
   image_accepted = accepted image (chosen (eqb (length memory) 4096) 0 (examined image) read).1
 
   image_spread : Spread 0 4092 (records image)
   image_spread = spread 4092 0 (records image) (omega arith) image_accepted.faultless
 
   memory_read : (reading image memory).memory ≡ image_spread.words ++ replicate 4 0
-  unfolding reading answered memory_of
+  unfolding reading left memory_of
   memory_read = rw (read, ← image_spread.same) (laid_all image_spread.words image_spread.counted)
 
   memory_size : length (reading image memory).memory ≡ 4096
@@ -91,19 +93,18 @@ module _ (image memory : List ℕ) (read : (reading image memory).answer ≡ 0) 
   written_read small room enough = puts _ room memory_size enough ∙ ap (λ (bs : List ℕ). filled bs room) (image_back small)
 
 -- No second answer satisfies the reader's promise, or the writer's.
-pub reader_decided : (image memory left left' : List ℕ) (r r' : Answer)
-    → reading image memory ≡ record { answer = number r; memory = left }
-    → reading image memory ≡ record { answer = number r'; memory = left' }
+pub reader_decided : (image memory left left' : List ℕ) (r r' : Result Unit Refusal)
+    → reading image memory ≡ record { answer = answered number r; memory = left }
+    → reading image memory ≡ record { answer = answered number r'; memory = left' }
     → (r ≡ r') × (left ≡ left')
 reader_decided image memory left left' r r' p q =
     let same = sym p ∙ q in
-    (one_case r r' (ap (λ (x : Reading). x.answer) same), ap (λ (x : Reading). x.memory) same)
+    (one_end tt r r' (ap (λ (x : Reading). x.answer) same) refl, ap (λ (x : Reading). x.memory) same)
 
-pub writer_decided : (memory room left left' : List ℕ) (r r' : Written)
-    → writing memory room ≡ record { answer = number r.answer; length = r.length; room = left }
-    → writing memory room ≡ record { answer = number r'.answer; length = r'.length; room = left' }
+pub writer_decided : (memory room left left' : List ℕ) (r r' : Result ℕ Refusal)
+    → writing memory room ≡ record { answer = answered number r; length = result_unwrap_or r 0; room = left }
+    → writing memory room ≡ record { answer = answered number r'; length = result_unwrap_or r' 0; room = left' }
     → (r ≡ r') × (left ≡ left')
 writer_decided memory room left left' r r' p q =
     let same = sym p ∙ q in
-    let answer = one_case r.answer r'.answer (ap (λ (x : Writing). x.answer) same) in
-    (ap₂ (λ (a : Answer) (n : ℕ). record { answer = a; length = n }) answer (ap (λ (x : Writing). x.length) same), ap (λ (x : Writing). x.room) same)
+    (one_end 0 r r' (ap (λ (x : Writing). x.answer) same) (ap (λ (x : Writing). x.length) same), ap (λ (x : Writing). x.room) same)

@@ -1,6 +1,6 @@
-pub mod Answers
+pub mod Refusals
 pub mod Records
-pub mod Numbers
+pub mod Following
 pub mod RoundTrip
 pub mod Laws
 pub mod Putting

@@ -1,26 +1,32 @@
--- Laws of records: the record that stands at `at` in an image, the first fault of records in turn, and how many bytes records have.
-use Prim.Native.Nat.{ℕ, suc, ◌+◌, ◌*◌, ◌%◌, ◌≤◌, ◌<◌}
-use mathlib.Core.Path.{◌≡◌, refl, sym, ◌∙◌, ap}
-use mathlib.Core.Bool.{Bool, true, false, cond}
-use mathlib.Core.List.{List, [], ◌∷◌, ◌++◌}
-use native.Mathlib.Omega.{arith}
-use lib.ListN.{length, get_or, drop, length-append}
-use lib.Dec.{ltb, eqb}
+-- Laws of records: an image's records by fours, the first fault of records in turn, and how many bytes records have.
+use Rattle.std.proofs.Common.{◌≡◌, ℕ, zero, suc, ◌+◌, ◌*◌, ◌/◌, ◌%◌, ◌≤◌, ◌<◌, Bool, true, false, cond, ltb, eqb, List, [], ◌∷◌, ◌++◌, map, length, get_or, drop, refl, sym, ap, ◌∙◌, add-one, drop-cons, drop_of_length-le, length-append, arith}
+use Rattle.std.specs.Simd.{first_chunks}
 use borrow.Table.Steps.{cases}
 use borrow.Author.Tests.{le-ltb, ltb-false, eqb-true}
-use Rattle.word.specs.Number.{word_of}
-use Rattle.text.proofs.Bytes.{four}
-use Rattle.image.specs.Records.{records, bytes, fault, first_fault, record_of, records_from}
+use Rattle.image.specs.Records.{records, record_in, bytes, fault, first_fault, record_of, records_from}
 use Rattle.image.specs.Image.{examined}
 use Rattle.image.specs.declared.Record.{Record}
 
--- Four bytes that stand from `at` on are one record.
-pub record_at : (l : List ℕ) (at : ℕ) → at + 4 ≤ length l
-    → records (drop at l)
-    ≡ record { address = record { 0 = word_of (record { 0 = get_or l at 0; 1 = get_or l (at + 1) 0 }) }; value = word_of (record { 0 = get_or l (at + 2) 0; 1 = get_or l (at + 3) 0 }) }
-    ∷ records (drop (at + 4) l)
+-- The records of an image's fours, and of those from one on.
+pub chunked : (image : List ℕ) (count : ℕ) → count ≡ length image / 4 → map record_in (first_chunks 4 count image) ≡ records image
 unfolding records
-record_at l at fits = ap records (four l at fits)
+chunked [] zero e = refl
+chunked [] (suc n) e = absurd (omega arith)
+chunked (a ∷ []) zero e = refl
+chunked (a ∷ []) (suc n) e = absurd (omega arith)
+chunked (a ∷ b ∷ []) zero e = refl
+chunked (a ∷ b ∷ []) (suc n) e = absurd (omega arith)
+chunked (a ∷ b ∷ c ∷ []) zero e = refl
+chunked (a ∷ b ∷ c ∷ []) (suc n) e = absurd (omega arith)
+chunked (a ∷ b ∷ c ∷ d ∷ rest) zero e = absurd (omega arith)
+chunked (a ∷ b ∷ c ∷ d ∷ rest) (suc n) e = ap (λ (rs : List Record). record_in (a ∷ b ∷ c ∷ d ∷ []) ∷ rs) (chunked rest n (omega arith))
+
+pub record_next : (fours : List (List ℕ)) (i : ℕ) {r : Record} → i < length fours → r ≡ record_in (get_or fours i [])
+    → map record_in (drop i fours) ≡ r ∷ map record_in (drop (i + 1) fours)
+record_next fours i h e = rw (e, add-one, drop-cons fours i [] h)
+
+pub records_end : (fours : List (List ℕ)) (i : ℕ) → length fours ≤ i → map record_in (drop i fours) ≡ []
+records_end fours i h = rw (drop_of_length-le fours h)
 
 -- A choice between answers is 0: it is not the one that is not 0.
 passes : (b : Bool) (n x : ℕ) → cond b (suc n) x ≡ 0 → (b ≡ false) × (x ≡ 0)

@@ -1,6 +1,6 @@
 -- Bytes, records and words turned into each other and back: nothing is lost on either way.
 use Prim.Native.Nat.{ℕ, zero, suc, ◌+◌, ◌%◌, ◌≤◌, ◌<◌}
-use mathlib.Core.Path.{◌≡◌, refl, sym, ◌∙◌, ap}
+use mathlib.Core.Path.{◌≡◌, refl, sym, ◌∙◌, ap, ap₂}
 use mathlib.Core.Bool.{true, false}
 use mathlib.Core.List.{List, [], ◌∷◌, ◌++◌}
 use native.Mathlib.Omega.{arith}
@@ -9,7 +9,6 @@ use lib.Seq.{append_snoc, set_at}
 use lib.Dec.{eqb}
 use borrow.Table.Steps.{cases}
 use borrow.Author.Tests.{eqb-true, eqb-false}
-use Rattle.word.specs.declared.Pair.{Pair}
 use Rattle.word.proofs.Laws.{bytes_back, word_back}
 use Rattle.image.specs.Records.{records, bytes, first_fault, laid, record_of, records_from}
 use Rattle.image.specs.declared.Record.{Record}
@@ -23,15 +22,7 @@ bytes_records (a ∷ []) whole small = absurd (omega arith)
 bytes_records (a ∷ b ∷ []) whole small = absurd (omega arith)
 bytes_records (a ∷ b ∷ c ∷ []) whole small = absurd (omega arith)
 bytes_records (a ∷ b ∷ c ∷ d ∷ rest) whole small =
-    let address = word_back a b (small 0) (small 1) in
-    let value = word_back c d (small 2) (small 3) in
-    rw (
-      ap (λ (p : Pair). p.0) address,
-      ap (λ (p : Pair). p.1) address,
-      ap (λ (p : Pair). p.0) value,
-      ap (λ (p : Pair). p.1) value,
-      bytes_records rest (omega arith) (λ i. small (suc (suc (suc (suc i))))),
-    )
+    ap₂ ◌++◌ (word_back a b (small 0) (small 1)) (ap₂ ◌++◌ (word_back c d (small 2) (small 3)) (bytes_records rest (omega arith) (λ i. small (suc (suc (suc (suc i)))))))
 
 -- What holds of all words holds of the first of them.
 pub take_below : (limit : ℕ) → 0 < limit → (n : ℕ) (words : List ℕ) → ((i : ℕ) → get_or words i 0 < limit) → (i : ℕ) → get_or (take n words) i 0 < limit

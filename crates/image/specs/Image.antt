@@ -16,12 +16,12 @@ pub record Reading : Type 0 where
   pub memory : List ℕ
 
 -- With any answer but 0, memory is as found.
-unfoldable pub answered : ℕ → List ℕ → List ℕ → Reading
-answered answer image memory = record { answer = answer; memory = cond (eqb answer 0) (memory_of image) memory }
+unfoldable pub left : ℕ → List ℕ → List ℕ → Reading
+left answer image memory = record { answer = answer; memory = cond (eqb answer 0) (memory_of image) memory }
 
 -- Image reader: 1, then the image's own answer.
 unfoldable pub reading : List ℕ → List ℕ → Reading
-reading image memory = answered (cond (eqb (length memory) 4096) (examined image) 1) image memory
+reading image memory = left (cond (eqb (length memory) 4096) (examined image) 1) image memory
 
 -- The image of a memory: of words 0 to 4,091 only those not 0.
 unfoldable pub image_of : List ℕ → List ℕ

@@ -1,21 +1,24 @@
 -- An image is records of four bytes, no header (01, Micro text and images): records in bytes, their faults, and records of words.
-use Rattle.std.specs.Prelude.{ℕ, suc, cond, List, [], ◌∷◌, ◌++◌, set, ltb, eqb}
+use Rattle.std.specs.Prelude.{ℕ, suc, cond, List, [], ◌∷◌, ◌++◌, take, drop, set, ltb, eqb}
 use Rattle.word.specs.Number.{bytes_of, word_of}
 use Rattle.image.specs.declared.Record.{Record}
 
--- The records that bytes hold: address, value, high byte first. Fewer than four bytes hold none.
+-- The record that four bytes are: address, value, high byte first.
+abbrev pub record_in : List ℕ → Record
+record_in four = record { address = record { 0 = word_of (take 2 four) }; value = word_of (drop 2 four) }
+
+-- The records that bytes hold. Fewer than four bytes hold none.
 unfoldable pub records : List ℕ → List Record
 records [] = []
 records (a ∷ []) = []
 records (a ∷ b ∷ []) = []
 records (a ∷ b ∷ c ∷ []) = []
-records (a ∷ b ∷ c ∷ d ∷ rest) =
-    record { address = record { 0 = word_of (record { 0 = a; 1 = b }) }; value = word_of (record { 0 = c; 1 = d }) } ∷ records rest
+records (a ∷ b ∷ c ∷ d ∷ rest) = record_in (a ∷ b ∷ c ∷ d ∷ []) ∷ records rest
 
 -- The bytes of records.
 unfoldable pub bytes : List Record → List ℕ
 bytes [] = []
-bytes (r ∷ rest) = (bytes_of r.address.0).0 ∷ (bytes_of r.address.0).1 ∷ (bytes_of r.value).0 ∷ (bytes_of r.value).1 ∷ bytes rest
+bytes (r ∷ rest) = bytes_of r.address.0 ++ bytes_of r.value ++ bytes rest
 
 -- The answer to one record, or 0. `least` is the lowest address above the one before; 0 for the first record.
 unfoldable pub fault : ℕ → Record → ℕ

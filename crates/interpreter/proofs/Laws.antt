@@ -1,109 +1,90 @@
--- Laws of the interpreter's runs: how one begins, goes on, stops and ends; no second answer; what a run does to memory and log.
-use Prim.Native.Nat.{ℕ, ◌+◌, ◌-◌, ◌≤◌, ◌<◌}
+-- Laws of the interpreter's runs: no second answer; what a run does to memory and log.
+use Prim.Native.Nat.{ℕ, ◌-◌, ◌≤◌}
 use mathlib.Core.Path.{◌≡◌, refl, sym, ◌∙◌, ap}
-use mathlib.Core.Bool.{Bool, true, false, cond, not}
 use mathlib.Core.List.{List, [], ◌∷◌, ◌++◌}
-use native.Mathlib.Nat.{add-zero}
 use native.Mathlib.Omega.{arith}
 use lib.ListN.{length, get_or, take, drop, length-append}
 use lib.Seq.{take_all}
-use lib.Dec.{eqb}
-use borrow.Author.Tests.{eqb-true, ne_eqb}
+use borrow.Author.Tests.{ne_eqb}
 use Rattle.bus.specs.Ports.{Left}
 use Rattle.bus.specs.Log.{Sent, after, to_log, room, Took}
-use Rattle.bus.specs.Stops.{number as stops_number}
+use Rattle.bus.specs.Stops.{number_of}
 use Rattle.bus.proofs.Laws as bus
-use Rattle.bus.proofs.Laws.{stop_of, stop_back, number_apart}
-use Rattle.turns.specs.Turns.{Turn, Turned, plus, turns, checked}
+use Rattle.bus.proofs.Laws.{number_only, number_apart}
+use Rattle.turns.specs.Turns.{Turned, checked}
 use Rattle.turns.proofs.Laws as T
-use Rattle.instruction.specs.Instruction.{State, instruct}
-use Rattle.interpreter.specs.Run.{number, refusal, instructions, writes, runs, ended_by}
+use Rattle.instruction.specs.Instruction.{State, state_of, instruct}
+use Rattle.std.specs.Prelude.{Option, Result, Ok, Err}
+use Rattle.bus.specs.declared.Stop.{Stop}
+use Rattle.bus.specs.declared.Refusal.{Refusal}
+use Rattle.bus.specs.declared.Refusal.TheVariants.{WrongSize, PastEnd, OutOfRange}
+use Rattle.bus.specs.Refusals.{number}
+use Rattle.instruction.specs.declared.Cpu.{Cpu}
+use Rattle.interpreter.specs.Run.{refusal, instructions, runs, writes, ended_with, ended_by}
 use Rattle.instruction.specs.Writes.{completed, found_in}
-use Rattle.interpreter.specs.declared.Answer.{Answer}
-use Rattle.interpreter.specs.declared.Answer.TheVariants.{Finished, WrongSize, PastEnd, OutOfRange}
 use Rattle.interpreter.specs.declared.Ran.{Ran}
 use Rattle.instruction.proofs.Laws.{refused_leaves, instruct_leaves, completed_one}
 
--- How a run goes on, stops and ends, by how many instructions are left.
-pub goes_on_lem : (input : List ℕ) (left done cycles : ℕ) (s : State) (a : Turn State) → 0 < left → instruct input s ≡ a → a.stop ≡ 0
-    → plus done cycles (instructions input left s) ≡ plus (done + 1) (cycles + a.cost) (instructions input (left - 1) a.next)
-unfolding instructions
-goes_on_lem input left done cycles s a h e f =
-    let here : done + left - done ≡ left = omega arith in
-    let there : done + left - (done + 1) ≡ left - 1 = omega arith in
-    rw (here, there) at (T.goes_on (instruct input) s {n = done + left} {done = done} cycles {t = a} (omega arith) e f)
+-- Each refusal has a number of its own, from 1 to 3.
+number_below : (refused : Refusal) → (1 ≤ number refused) × (number refused ≤ 4)
+number_below WrongSize = (omega arith, omega arith)
+number_below PastEnd = (omega arith, omega arith)
+number_below OutOfRange = (omega arith, omega arith)
 
-pub stops : (input : List ℕ) (left done cycles : ℕ) (s : State) (a : Turn State) → 0 < left → instruct input s ≡ a → eqb a.stop 0 ≡ false
-    → plus done cycles (instructions input left s) ≡ record { state = a.next; done = done; cost = cycles; stop = a.stop }
-unfolding instructions
-stops input left done cycles s a h e f =
-    let one : done + left - done ≡ left = omega arith in
-    rw one at (T.stops (instruct input) s {n = done + left} {done = done} cycles {t = a} (omega arith) e f)
-
-pub ends : (input : List ℕ) (n left cycles : ℕ) (s : State) → left ≤ 0
-    → plus (n - left) cycles (instructions input left s) ≡ record { state = s; done = n; cost = cycles; stop = 0 }
-unfolding instructions plus turns
-ends input n left cycles s h = let none_left : left ≡ 0 = omega arith in let all : n - 0 ≡ n = omega arith in rw (none_left, all, add-zero, add-zero)
-
--- What answers 1 to 3 let through has a memory of 4,096 words.
-pub has_words : (input : List ℕ) (s : State) → refusal input s ≡ 0 → length s.memory ≡ 4096
-unfolding refusal
-has_words input s e = by (eqb (length s.memory) 4096) _ refl e
-  where
-    by : (b : Bool) (rest : ℕ) → eqb (length s.memory) 4096 ≡ b → cond (not b) 1 rest ≡ 0 → length s.memory ≡ 4096
-    by true rest t e = eqb-true (length s.memory) 4096 t
-    by false rest t e = let z : ⊥ = omega arith in absurd z
-
--- The check's answer lets the instructions run where its number is 0; any other is handed on with everything as found.
-module _ (a : Answer) (input : List ℕ) (n : ℕ) (s : State) (e : refusal input s ≡ number a) where
-  pub lets_run : {x : Turned State} → number a ≡ 0 → instructions input n s ≡ x → runs input n s ≡ x
+-- What nothing refuses lets the instructions run; what is refused leaves all as found.
+module _ (input : List ℕ) (n : ℕ) (cpu : Cpu) (memory log : List ℕ) where
+  pub lets_run : {x : Turned State} → refusal input (state_of cpu memory log) ≡ 0 → instructions input n (state_of cpu memory log) ≡ x → runs input n (state_of cpu memory log) ≡ x
   unfolding runs instructions
-  lets_run z p = T.goes (instruct input) n s (e ∙ z) ∙ p
+  lets_run e p = T.goes (instruct input) n (state_of cpu memory log) e ∙ p
 
-  pub refuses : (number a ≡ 0 → ⊥) → runs input n s ≡ record { state = s; done = 0; cost = 0; stop = number a }
+  pub refused : (r : Refusal) → refusal input (state_of cpu memory log) ≡ number r → runs input n (state_of cpu memory log) ≡ ended_by cpu (Err r) memory log
   unfolding runs checked
-  refuses z = rw (e, ne_eqb (number a) 0 z)
+  refused r e = rw (e, ne_eqb (number r) 0 (λ z. omega (arith, number_below r)))
 
--- No second answer: a run's promise fixes what it hands back and both lent lists. The answer is read back from its number.
-answer_of : ℕ → Answer
-answer_of n = cond (eqb n 1) WrongSize (cond (eqb n 2) PastEnd (cond (eqb n 3) OutOfRange (Finished (stop_of n))))
+  pub wrong_size : (length memory ≡ 4096 → ⊥) → runs input n (state_of cpu memory log) ≡ ended_by cpu (Err WrongSize) memory log
+  unfolding refusal
+  wrong_size h = refused WrongSize (rw (ne_eqb (length memory) 4096 h))
 
-read_back : (a : Answer) → answer_of (number a) ≡ a
-unfolding answer_of
-read_back (Finished stop) =
-    let apart : (k : ℕ) → 1 ≤ k → k ≤ 4 → eqb (stops_number stop) k ≡ false = λ k l h. ne_eqb (stops_number stop) k (number_apart stop k l h) in
-    rw (apart 1 (omega arith) (omega arith), apart 2 (omega arith) (omega arith), apart 3 (omega arith) (omega arith), stop_back stop)
-read_back WrongSize = refl
-read_back PastEnd = refl
-read_back OutOfRange = refl
-
-ran_of : Turned State → Ran
-ran_of e =
+-- No second answer: a run's promise fixes what it hands back and both lent lists. What a run that was not refused hands back is read off
+-- the definition's record.
+abbrev ran_of : Turned State → Option Stop → Ran
+ran_of e stop =
     record {
-      cpu = record {
-        cp = record { 0 = e.state.cp };
-        ac = e.state.ac;
-        pp = record { 0 = e.state.pp };
-        place = e.state.place;
-        count = e.state.count;
-      };
+      cpu = record { core = record { cp = record { 0 = e.state.cp }; ac = e.state.ac; pp = record { 0 = e.state.pp }; place = e.state.place }; count = e.state.count };
       done = e.done;
       cycles = e.cost;
-      answer = answer_of e.stop;
+      stop = stop;
     }
 
-handed : (r : Ran) (memory log : List ℕ) → ran_of (ended_by r memory log) ≡ r
-unfolding ran_of
-handed r memory log = rw (read_back r.answer)
+refusal_only : (a b : Refusal) → number a ≡ number b → a ≡ b
+refusal_only WrongSize WrongSize e = refl
+refusal_only WrongSize PastEnd e = absurd (omega (arith, e))
+refusal_only WrongSize OutOfRange e = absurd (omega (arith, e))
+refusal_only PastEnd WrongSize e = absurd (omega (arith, e))
+refusal_only PastEnd PastEnd e = refl
+refusal_only PastEnd OutOfRange e = absurd (omega (arith, e))
+refusal_only OutOfRange WrongSize e = absurd (omega (arith, e))
+refusal_only OutOfRange PastEnd e = absurd (omega (arith, e))
+refusal_only OutOfRange OutOfRange e = refl
 
-pub run_only : {e : Turned State} (r r' : Ran) {memory memory' log log' : List ℕ} → e ≡ ended_by r memory log → e ≡ ended_by r' memory' log'
+pub run_only : {e : Turned State} (cpu : Cpu) (r r' : Result Ran Refusal) {memory memory' log log' : List ℕ} → e ≡ ended_by cpu r memory log → e ≡ ended_by cpu r' memory' log'
     → (r ≡ r') × (memory ≡ memory') × (log ≡ log')
-run_only r r' {memory} {memory'} {log} {log'} p q =
-    let same : ended_by r memory log ≡ ended_by r' memory' log' = sym p ∙ q in (
-      sym (handed r memory log) ∙ ap ran_of same ∙ handed r' memory' log',
-      ap (λ (x : Turned State). x.state.memory) same,
-      ap (λ (x : Turned State). x.state.log) same,
-    )
+run_only cpu r r' {memory} {memory'} {log} {log'} p q = by r r' (sym p ∙ q)
+  where
+    apart : (stop : Option Stop) (refused : Refusal) → number_of stop ≡ number refused → ⊥
+    apart stop refused e = let b = number_below refused in number_apart stop (number refused) b.0 b.1 e
+
+    by : (r r' : Result Ran Refusal) → ended_by cpu r memory log ≡ ended_by cpu r' memory' log' → (r ≡ r') × (memory ≡ memory') × (log ≡ log')
+    by (Ok x) (Ok y) e =
+        let stop : x.stop ≡ y.stop = number_only x.stop y.stop (ap (λ (t : Turned State). t.stop) e) in (
+          ap (λ (t : Turned State). Ok (ran_of t x.stop)) e ∙ ap (λ (o : Option Stop). Ok (ran_of (ended_with y memory' log') o)) stop,
+          ap (λ (t : Turned State). t.state.memory) e,
+          ap (λ (t : Turned State). t.state.log) e,
+        )
+    by (Ok x) (Err refused) e = absurd (apart x.stop refused (ap (λ (t : Turned State). t.stop) e))
+    by (Err refused) (Ok y) e = absurd (apart y.stop refused (sym (ap (λ (t : Turned State). t.stop) e)))
+    by (Err refused) (Err refused') e =
+        (ap Err (refusal_only refused refused' (ap (λ (t : Turned State). t.stop) e)), ap (λ (t : Turned State). t.state.memory) e, ap (λ (t : Turned State). t.state.log) e)
 
 -- Memory keeps its length and the words under its ports.
 pub record Spared (before later : List ℕ) : Type 0 where
@@ -165,3 +146,5 @@ log_kept input n s h =
 -- No run changes the words under the ports, or the length of memory.
 pub ports_kept : (input : List ℕ) (n : ℕ) (s : State) → Spared s.memory (instructions input n s).state.memory
 ports_kept input n s = rw (ap (λ (l : Left). l.memory) (run_leaves input n s)) (spared (writes input n s) (found_in s))
+
+pub ruleset begun = (lets_run, refused, wrong_size)

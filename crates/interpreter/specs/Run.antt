@@ -1,21 +1,14 @@
 -- A run of instructions: the refusals before it, the instructions in turn, and what it answers (01, Instructions; Answer numbers).
-use Rattle.std.specs.Prelude.{ℕ, cond, ◌||◌, List}
+use Rattle.std.specs.Prelude.{ℕ, cond, ◌||◌, List, Result, Ok, Err}
 use Rattle.turns.specs.Turns.{Turned, turns, checked, told}
-use Rattle.bus.specs.Stops as stops
-use Rattle.bus.specs.Refusals.{wrong_memory, past_end, outside}
+use Rattle.bus.specs.Stops.{number_of}
+use Rattle.bus.specs.Refusals.{number, wrong_memory, past_end, outside}
+use Rattle.bus.specs.declared.Refusal.{Refusal}
 use Rattle.bus.specs.Log.{Sent}
 use Rattle.instruction.specs.Instruction.{State, instruct, state_of}
 use Rattle.instruction.specs.Writes.{completed}
-use Rattle.interpreter.specs.declared.Answer.{Answer}
-use Rattle.interpreter.specs.declared.Answer.TheVariants.{Finished, WrongSize, PastEnd, OutOfRange}
+use Rattle.instruction.specs.declared.Cpu.{Cpu}
 use Rattle.interpreter.specs.declared.Ran.{Ran}
-
--- The number of each answer of the code.
-abbrev pub number : Answer → ℕ
-number (Finished stop) = stops.number stop
-number WrongSize = 1
-number PastEnd = 2
-number OutOfRange = 3
 
 -- The interpreter checks 1 to 3 without control store, REM and CMP; 0 lets it run.
 unfoldable pub refusal : List ℕ → State → ℕ
@@ -37,6 +30,11 @@ writes input n s = told (instruct input) (completed input) n s
 unfoldable pub runs : List ℕ → ℕ → State → Turned State
 runs input n s = checked (refusal input s) (instruct input) n s
 
--- What the code's run hands back, with the lent lists.
-abbrev pub ended_by : Ran → List ℕ → List ℕ → Turned State
-ended_by r memory log = record { state = state_of r.cpu memory log; done = r.done; cost = r.cycles; stop = number r.answer }
+-- What the code's instructions hand back, with the lent lists.
+abbrev pub ended_with : Ran → List ℕ → List ℕ → Turned State
+ended_with r memory log = record { state = state_of r.cpu memory log; done = r.done; cost = r.cycles; stop = number_of r.stop }
+
+-- And the code's run. A refused one hands back nothing, and the registers stay as they were.
+abbrev pub ended_by : Cpu → Result Ran Refusal → List ℕ → List ℕ → Turned State
+ended_by cpu (Ok r) memory log = ended_with r memory log
+ended_by cpu (Err refused) memory log = record { state = state_of cpu memory log; done = 0; cost = 0; stop = number refused }

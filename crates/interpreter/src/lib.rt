@@ -1,419 +1,302 @@
 // The direct interpreter: a run of instructions.
-#![tactic(auto)]
+#![tactic(auto, unfolding(instruction::specs::Instruction::sets, instruction::specs::Instruction::stores, instruction::specs::Instruction::gains, instruction::specs::Instruction::branches, bus::specs::Ports::read_at, bus::specs::Ports::write_at, bus::specs::Ports::goes, bus::specs::Ports::sent))]
 
-ghost use Rattle.std.specs.Prelude.{◌≡◌, true, false, ◌≤◌, ◌<◌, length, get_or};
-ghost use Rattle.word.specs.Number.{kept, sum, difference};
-ghost use Rattle.instruction.specs.Instruction.{gains, branches, stores, action, instruct, state_of};
-ghost use Rattle.interpreter.specs.Run.{number, refusal, instructions, runs, ended_by};
-ghost use Rattle.interpreter.specs.Code.BelowPorts.{Plain, Onward, state_with, pushes, copies, returns, pops};
+ghost use Rattle.std.specs.Prelude.{◌≡◌, ℕ, List, ◌*◌, ◌≤◌, true};
+ghost use Rattle.word.specs.Number.{kept};
+ghost use Rattle.word.specs.Answer.{answered};
+ghost use Rattle.bus.specs.Refusals.{number};
+ghost use Rattle.instruction.specs.Instruction.{at, sets, gains, branches, stores, below, above, named, action, instruct, state_of};
+ghost use Rattle.interpreter.specs.Run.{refusal, instructions, runs, ended_with, ended_by};
+ghost use Rattle.interpreter.specs.Code.BelowPorts.{Done, Plain, Onward, held_below, popped};
 
-use bus::Stop;
-use instruction::Cpu;
+use bus::{Refusal, Stop};
+use instruction::{Core, Cpu};
 use word::Address;
 
 // The first port: below it an address is a word of memory.
 const PORTS: u16 = 4092;
 
-// What a run comes to: it is finished, done or stopped, or was refused before its first instruction.
-#[derive(Clone, Copy)]
-pub enum Answer {
-    Finished(Stop),
-    WrongSize,
-    PastEnd,
-    OutOfRange,
-}
-
-impl Answer {
-    // Document 01's number.
-    pub fn number(self) -> u32
-        ensures { result ≡ number self }
-    {
-        match self {
-            Answer::Finished(stop) => stop.number(),
-            Answer::WrongSize => 1,
-            Answer::PastEnd => 2,
-            Answer::OutOfRange => 3,
-        }
-    }
-}
-
-// A run: the registers at its end, the instructions carried out, the sum of their cycles, and the answer.
+// A run: the registers at its end, the instructions carried out, the sum of their cycles, and what stopped it, if anything did.
 #[derive(Clone, Copy)]
 pub struct Ran {
     pub cpu: Cpu,
     pub done: u32,
     pub cycles: u64,
-    pub answer: Answer,
+    pub stop: Option<Stop>,
 }
 
-// The registers, all that an instruction below the ports needs beside memory.
-#[derive(Clone, Copy)]
-struct Registers {
-    cp: Address,
-    ac: u16,
-    pp: Address,
-}
-
-// Such an instruction: the registers afterwards and the table's cycles; or it meets a port and is left undone.
+// An instruction that meets no port: the registers afterwards and the table's cycles.
 #[derive(Clone, Copy)]
 struct Passed {
-    registers: Registers,
-    met: bool,
+    core: Core,
     cycles: u64,
 }
 
-// Part of a run: the registers after it, how many instructions are left to do, and the cycles of those done.
+// Part of a run: the registers after it, how many instructions are done, and their cycles. The log count stands beside it: one value more
+// sends the loop of `pass_below` by the stack, and a run takes 1.02 to 1.2 times as long as plain C's.
 #[derive(Clone, Copy)]
 struct Stage {
-    cpu: Cpu,
-    left: u32,
+    core: Core,
+    done: u32,
     cycles: u64,
 }
 
-fn leave(registers: Registers) -> Passed
-    ensures { result ≡ record { registers = registers; met = true; cycles = 0 } }
-{
-    Passed {
-        registers,
-        met: true,
-        cycles: 0,
+impl Stage {
+    // The run that ends here.
+    fn ended(self, count: usize, stop: Option<Stop>) -> Ran
+        ensures { result ≡ record { cpu = record { core = self.core; count = count }; done = self.done; cycles = self.cycles; stop = stop } }
+    {
+        let Stage { core, done, cycles } = self;
+        Ran {
+            cpu: Cpu { core, count },
+            done,
+            cycles,
+            stop,
+        }
     }
 }
 
-fn pass(cycles: u64, cp: Address, ac: u16, pp: Address) -> Passed
-    ensures { result ≡ record { registers = record { cp = cp; ac = ac; pp = pp }; met = false; cycles = cycles } }
+// The word at an address, if no port is there.
+fn word_below(memory: &[u16; 4096], address: Address) -> Option<u16>
+    ensures { result ≡ held_below memory.now address.0 }
 {
-    Passed {
-        registers: Registers { cp, ac, pp },
-        met: false,
+    if PORTS <= address.0 {
+        return None;
+    }
+    Some(memory[address.0 as usize])
+}
+
+// AC becomes what f makes of the word at an address.
+fn gain_below<F: FnOnce(u16) -> u16>(
+    cycles: u64,
+    memory: &[u16; 4096],
+    own: Core,
+    address: Address,
+    f: F,
+) -> Option<Passed>
+    requires { F.IsAlwaysCallable f }
+    ensures { (made : ℕ → ℕ) → ((m r : ℕ) → F.post f m r → r ≡ made m) → Done (λ input s. gains cycles input s address.0 made) own memory.now result memory.now }
+{
+    let ac = f(word_below(memory, address)?);
+    Some(Passed {
+        core: Core { ac, ..own },
         cycles,
-    }
-}
-
-fn word_below(memory: &[u16], address: Address) -> u16
-    requires { (length memory.now ≡ 4096) × (address.0 < 4092) }
-    ensures { result ≡ get_or memory.now address.0 0 }
-{
-    let k = address.0 as usize;
-    memory[k]
-}
-
-fn load_below(memory: &[u16], own: Registers, address: Address) -> Passed
-    requires { length memory.now ≡ 4096 }
-    ensures { Plain (λ input b. gains 9 input (state_with own memory.now b) address.0 (λ m. m)) memory.now result memory.now }
-{
-    if PORTS <= address.0 {
-        return leave(own);
-    }
-    let cp = own.cp;
-    let pp = own.pp;
-    pass(9, cp, word_below(memory, address), pp)
-}
-
-fn add_below(cycles: u64, memory: &[u16], own: Registers, address: Address) -> Passed
-    requires { length memory.now ≡ 4096 }
-    ensures { Plain (λ input b. gains cycles input (state_with own memory.now b) address.0 (λ m. sum 16 own.ac m)) memory.now result memory.now }
-{
-    if PORTS <= address.0 {
-        return leave(own);
-    }
-    let cp = own.cp;
-    let pp = own.pp;
-    pass(
-        cycles,
-        cp,
-        word::add(own.ac, word_below(memory, address)),
-        pp,
-    )
-}
-
-fn subtract_below(memory: &[u16], own: Registers, address: Address) -> Passed
-    requires { length memory.now ≡ 4096 }
-    ensures { Plain (λ input b. gains 9 input (state_with own memory.now b) address.0 (λ m. difference 16 own.ac m)) memory.now result memory.now }
-{
-    if PORTS <= address.0 {
-        return leave(own);
-    }
-    let cp = own.cp;
-    let pp = own.pp;
-    pass(
-        9,
-        cp,
-        word::subtract(own.ac, word_below(memory, address)),
-        pp,
-    )
+    })
 }
 
 // A jump to a port is left undone too: where it is taken, the branch must not become a choice of values.
-fn jump_below(cycles: u64, memory: &[u16], own: Registers, x: Address) -> Passed
-    ensures { Plain (λ input b. branches cycles (state_with own memory.now b) true x.0) memory.now result memory.now }
+fn jump_below(cycles: u64, own: Core, x: Address) -> Option<Passed>
+    ensures { (memory : List ℕ) → Done (λ input s. branches cycles s true x.0) own memory result memory }
 {
     if PORTS <= x.0 {
-        return leave(own);
+        return None;
     }
-    let pp = own.pp;
-    pass(cycles, x, own.ac, pp)
+    Some(Passed {
+        core: Core { cp: x, ..own },
+        cycles,
+    })
 }
 
+// The registers stay, and a word is written to an address.
 fn write_below(
     cycles: u64,
-    memory: &mut [u16],
-    own: Registers,
-    cp: Address,
-    pp: Address,
+    memory: &mut [u16; 4096],
+    own: Core,
     address: Address,
     word: u16,
-) -> Passed
-    requires { length memory.old ≡ 4096 }
-    ensures { Plain (λ input b. stores cycles (state_with own memory.old b) cp.0 pp.0 b.place address.0 word) memory.old result memory.new }
+) -> Option<Passed>
+    ensures { Plain (λ input s. stores cycles s s.cp s.pp s.place address.0 word) own memory.old result memory.new }
 {
     if PORTS <= address.0 {
-        return leave(own);
+        return None;
     }
-    let k = address.0 as usize;
-    memory[k] = word;
-    pass(cycles, cp, own.ac, pp)
+    memory[address.0 as usize] = word;
+    Some(Passed { core: own, cycles })
 }
 
-// A word goes from one address to another.
-fn copy_below(memory: &mut [u16], own: Registers, pp: Address, from: Address, to: Address) -> Passed
-    requires { length memory.old ≡ 4096 }
-    ensures { Plain (λ input b. copies input (state_with own memory.old b) pp.0 from.0 to.0) memory.old result memory.new }
+// PP falls by 1, and a word is written where it then points.
+fn push_below(cycles: u64, memory: &mut [u16; 4096], own: Core, word: u16) -> Option<Passed>
+    ensures { Plain (λ input s. stores cycles s s.cp (below s) s.place (below s) word) own memory.old result memory.new }
 {
-    if PORTS <= from.0 {
-        return leave(own);
-    }
-    let cp = own.cp;
-    let word = word_below(memory, from);
-    write_below(11, memory, own, cp, pp, to, word)
+    let pp = own.pp.minus(Address(1));
+    write_below(cycles, memory, Core { pp, ..own }, pp, word)
 }
 
-// CALL and PUSH: a word is pushed.
-fn push_below(memory: &mut [u16], own: Registers, cp: Address, word: u16) -> Passed
-    requires { length memory.old ≡ 4096 }
-    ensures { Plain (λ input b. pushes (state_with own memory.old b) cp.0 word) memory.old result memory.new }
+// What is popped, and the registers with PP one higher.
+fn popped_below(memory: &[u16; 4096], own: Core) -> Option<(u16, Core)>
+    ensures { result ≡ popped memory.now own }
 {
-    let pp = own.pp;
-    let down = pp.minus(Address(1));
-    write_below(10, memory, own, cp, down, down, word)
+    let word = word_below(memory, own.pp)?;
+    let pp = own.pp.plus(Address(1));
+    Some((word, Core { pp, ..own }))
 }
 
-// PSHI and POPI.
-fn push_from_below(memory: &mut [u16], own: Registers) -> Passed
-    requires { length memory.old ≡ 4096 }
-    ensures { Plain (λ input b. copies input (state_with own memory.old b) (difference 12 own.pp.0 1) (kept 12 own.ac) (difference 12 own.pp.0 1)) memory.old result memory.new }
+// PSHI, RETN, POP and POPI, in the order of the table.
+fn push_named_below(memory: &mut [u16; 4096], own: Core) -> Option<Passed>
+    ensures { Plain (λ input s. stores 11 s s.cp (below s) (at input s (named s)).place (below s) (at input s (named s)).word) own memory.old result memory.new }
 {
-    let pp = own.pp;
-    let down = pp.minus(Address(1));
-    copy_below(memory, own, down, Address::of(own.ac), down)
+    let word = word_below(memory, Address::of(own.ac))?;
+    push_below(11, memory, own, word)
 }
 
-fn pop_to_below(memory: &mut [u16], own: Registers) -> Passed
-    requires { length memory.old ≡ 4096 }
-    ensures { Plain (λ input b. copies input (state_with own memory.old b) (sum 12 own.pp.0 1) own.pp.0 (kept 12 own.ac)) memory.old result memory.new }
+fn go_back_below(memory: &[u16; 4096], own: Core) -> Option<Passed>
+    ensures { Done (λ input s. sets 9 s (kept 12 (at input s s.pp).word) (above s) s.ac (at input s s.pp).place) own memory.now result memory.now }
 {
-    let pp = own.pp;
-    let up = pp.plus(Address(1));
-    copy_below(memory, own, up, pp, Address::of(own.ac))
+    let (word, own) = popped_below(memory, own)?;
+    let cp = Address::of(word);
+    Some(Passed {
+        core: Core { cp, ..own },
+        cycles: 9,
+    })
 }
 
-// RETN and POP.
-fn return_below(memory: &[u16], own: Registers) -> Passed
-    requires { length memory.now ≡ 4096 }
-    ensures { Plain (λ input b. returns input (state_with own memory.now b)) memory.now result memory.now }
+fn pop_below(memory: &[u16; 4096], own: Core) -> Option<Passed>
+    ensures { Done (λ input s. sets 10 s s.cp (above s) (at input s s.pp).word (at input s s.pp).place) own memory.now result memory.now }
 {
-    let pp = own.pp;
-    if PORTS <= pp.0 {
-        return leave(own);
-    }
-    let cp = Address::of(word_below(memory, pp));
-    pass(9, cp, own.ac, pp.plus(Address(1)))
+    let (ac, own) = popped_below(memory, own)?;
+    Some(Passed {
+        core: Core { ac, ..own },
+        cycles: 10,
+    })
 }
 
-fn pop_below(memory: &[u16], own: Registers) -> Passed
-    requires { length memory.now ≡ 4096 }
-    ensures { Plain (λ input b. pops input (state_with own memory.now b)) memory.now result memory.now }
+fn pop_named_below(memory: &mut [u16; 4096], own: Core) -> Option<Passed>
+    ensures { Plain (λ input s. stores 11 s s.cp (above s) (at input s s.pp).place (named s) (at input s s.pp).word) own memory.old result memory.new }
 {
-    let cp = own.cp;
-    let pp = own.pp;
-    if PORTS <= pp.0 {
-        return leave(own);
-    }
-    pass(10, cp, word_below(memory, pp), pp.plus(Address(1)))
-}
-
-// The table from JUMP on, below the ports.
-fn act_below_from_jump(code: u32, x: Address, memory: &mut [u16], own: Registers) -> Passed
-    requires { (8 ≤ code) × (length memory.old ≡ 4096) }
-    ensures { Plain (λ input b. action input code x.0 (state_with own memory.old b)) memory.old result memory.new }
-{
-    let cp = own.cp;
-    let pp = own.pp;
-    match code {
-        8 => jump_below(7, memory, own, x),
-        9 => pass(7, cp, x.0, pp),
-        10 => push_below(memory, own, x, cp.0),
-        11 => return_below(memory, own),
-        12 => push_below(memory, own, cp, own.ac),
-        13 => push_from_below(memory, own),
-        14 => pop_below(memory, own),
-        _ => pop_to_below(memory, own),
-    }
+    let (word, own) = popped_below(memory, own)?;
+    write_below(11, memory, own, Address::of(own.ac), word)
 }
 
 // The table, in its order, below the ports. A jump's test stands here, since a choice of values would tie CP to AC.
-fn act_below(code: u32, x: Address, memory: &mut [u16], own: Registers) -> Passed
-    requires { length memory.old ≡ 4096 }
-    ensures { Plain (λ input b. action input code x.0 (state_with own memory.old b)) memory.old result memory.new }
+#[tactic(auto, unfolding(instruction::specs::Instruction::action, instruction::specs::Instruction::branches, instruction::specs::Instruction::sets, instruction::specs::Instruction::stores))]
+fn act_below(code: u32, x: Address, memory: &mut [u16; 4096], own: Core) -> Option<Passed>
+    ensures { Plain (λ input s. action input code x.0 s) own memory.old result memory.new }
 {
-    let cp = own.cp;
-    let pp = own.pp;
+    let plus = |m| word::add(own.ac, m);
+    let minus = |m| word::subtract(own.ac, m);
     match code {
-        0 => load_below(memory, own, x),
-        1 => write_below(9, memory, own, cp, pp, x, own.ac),
-        2 => add_below(9, memory, own, x),
-        3 => subtract_below(memory, own, x),
-        4 => add_below(10, memory, own, pp.plus(x)),
-        5 => subtract_below(memory, own, pp.plus(x)),
-        6 => {
-            if own.ac == 0 {
-                return jump_below(8, memory, own, x);
-            }
-            pass(8, cp, own.ac, pp)
-        }
-        7 => {
-            if 32768 <= own.ac {
-                return jump_below(8, memory, own, x);
-            }
-            pass(8, cp, own.ac, pp)
-        }
-        _ => act_below_from_jump(code, x, memory, own),
+        0 => gain_below(9, memory, own, x, |m| m),
+        1 => write_below(9, memory, own, x, own.ac),
+        2 => gain_below(9, memory, own, x, plus),
+        3 => gain_below(9, memory, own, x, minus),
+        4 => gain_below(10, memory, own, own.pp.plus(x), plus),
+        5 => gain_below(9, memory, own, own.pp.plus(x), minus),
+        6 if own.ac == 0 => jump_below(8, own, x),
+        7 if 32768 <= own.ac => jump_below(8, own, x),
+        6 | 7 => Some(Passed {
+            core: own,
+            cycles: 8,
+        }),
+        8 => jump_below(7, own, x),
+        9 => Some(Passed {
+            core: Core { ac: x.0, ..own },
+            cycles: 7,
+        }),
+        10 => push_below(10, memory, Core { cp: x, ..own }, own.cp.0),
+        11 => go_back_below(memory, own),
+        12 => push_below(10, memory, own, own.ac),
+        13 => push_named_below(memory, own),
+        14 => pop_below(memory, own),
+        _ => pop_named_below(memory, own),
     }
 }
 
 // One instruction below the ports.
-fn carry_out_below(memory: &mut [u16], own: Registers) -> Passed
-    requires { length memory.old ≡ 4096 }
-    ensures { Plain (λ input b. instruct input (state_with own memory.old b)) memory.old result memory.new }
+#[tactic(auto, unfolding(instruction::specs::Instruction::acted, instruction::specs::Instruction::fetched, instruction::specs::Instruction::past, instruction::specs::Instruction::instruct, turns::specs::Turns::settled, bus::specs::Ports::read_at))]
+fn carry_out_below(memory: &mut [u16; 4096], own: Core) -> Option<Passed>
+    ensures { Plain instruct own memory.old result memory.new }
 {
-    let cp = own.cp;
-    let pp = own.pp;
-    if PORTS <= cp.0 {
-        return leave(own);
-    }
-    let word = word_below(memory, cp);
-    let past = Registers {
-        cp: cp.plus(Address(1)),
-        ac: own.ac,
-        pp,
-    };
+    let word = word_below(memory, own.cp)?;
+    let cp = own.cp.plus(Address(1));
     let code = word::take(word as u32, 12, 4);
-    act_below(code, Address::of(word), memory, past)
+    act_below(code, Address::of(word), memory, Core { cp, ..own })
 }
 
-// The place and the count are as they were before.
-fn so_far(own: Registers, cpu: Cpu, left: u32, cycles: u64) -> Stage
-    ensures { result ≡ record { cpu = record { cp = own.cp; ac = own.ac; pp = own.pp; place = cpu.place; count = cpu.count }; left = left; cycles = cycles } }
+// As many of n instructions, from a stage on, as come before the first that meets a port.
+#[inline(never)]
+#[tactic(auto, using(crate::proofs::BelowPorts::stages))]
+fn pass_below(memory: &mut [u16; 4096], from: Stage, n: u32) -> Stage
+    requires within { from.done ≤ n }
+    requires spent { from.cycles ≤ 11 * from.done }
+    ensures { Onward n from memory.old result memory.new }
 {
-    let cp = own.cp;
-    let pp = own.pp;
+    let mut core = from.core;
+    let mut cycles = from.cycles;
+    for done in from.done..n {
+        let Some(passed) = carry_out_below(memory, core) else {
+            return Stage { core, done, cycles };
+        };
+        core = passed.core;
+        cycles += passed.cycles;
+    }
     Stage {
-        cpu: Cpu {
-            cp,
-            ac: own.ac,
-            pp,
-            place: cpu.place,
-            count: cpu.count,
-        },
-        left,
+        core,
+        done: n,
         cycles,
     }
-}
-
-// As many of n instructions as come before the first that meets a port.
-fn pass_below(memory: &mut [u16], cpu: Cpu, n: u32) -> Stage
-    requires { length memory.old ≡ 4096 }
-    ensures { Onward n cpu memory.old result memory.new }
-{
-    let cp = cpu.cp;
-    let pp = cpu.pp;
-    let mut own = Registers { cp, ac: cpu.ac, pp };
-    let mut left = n;
-    let mut cycles: u64 = 0;
-    while 0 < left {
-        let passed = carry_out_below(memory, own);
-        if passed.met {
-            return so_far(own, cpu, left, cycles);
-        }
-        own = passed.registers;
-        cycles += passed.cycles;
-        left -= 1;
-    }
-    so_far(own, cpu, left, cycles)
 }
 
 // That many single instructions in turn: below the ports as long as none is met, then one through them, and so on.
-fn carry_out_all(memory: &mut [u16], input: &[u16], log: &mut [u16], cpu: Cpu, n: u32) -> Ran
-    requires { length memory.old ≡ 4096 }
-    ensures { instructions input.now n (state_of cpu memory.old log.old) ≡ ended_by result memory.new log.new }
+#[tactic(auto, using(crate::proofs::BelowPorts::stages))]
+fn carry_out_all(memory: &mut [u16; 4096], input: &[u16], log: &mut [u16], cpu: Cpu, n: u32) -> Ran
+    ensures { instructions input.now n (state_of cpu memory.old log.old) ≡ ended_with result memory.new log.new }
 {
-    let first = pass_below(memory, cpu, n);
-    let mut cpu = first.cpu;
-    let mut left = first.left;
-    let mut cycles = first.cycles;
-    while 0 < left {
-        let acted = instruction::carry_out(memory, input, log, cpu);
-        cpu = acted.cpu;
-        let stop = acted.stop;
-        if !stop.goes_on() {
-            return Ran {
-                cpu,
-                done: n - left,
-                cycles,
-                answer: Answer::Finished(stop),
-            };
+    let Cpu { core, mut count } = cpu;
+    // No range: a turn of this loop carries out as many instructions as come before a port, and one more.
+    let mut stage = Stage {
+        core,
+        done: 0,
+        cycles: 0,
+    };
+    loop {
+        stage = pass_below(memory, stage, n);
+        if stage.done == n {
+            return stage.ended(count, None);
         }
-        let next = pass_below(memory, cpu, left - 1);
-        cpu = next.cpu;
-        left = next.left;
-        cycles += acted.cycles + next.cycles;
-    }
-    Ran {
-        cpu,
-        done: n,
-        cycles,
-        answer: Answer::Finished(Stop::GoesOn),
-    }
-}
-
-// Refusals 1 to 3, in order, or nothing to refuse.
-fn check(memory: &[u16], input: &[u16], log: &[u16], cpu: Cpu) -> Answer
-    ensures { refusal input.now (state_of cpu memory.now log.now) ≡ number result }
-{
-    if bus::is_wrong_memory(memory) {
-        return Answer::WrongSize;
-    }
-    if bus::is_past_end(input, cpu.place, log, cpu.count) {
-        return Answer::PastEnd;
-    }
-    if bus::is_outside(cpu.cp.0) | bus::is_outside(cpu.pp.0) {
-        return Answer::OutOfRange;
-    }
-    Answer::Finished(Stop::GoesOn)
-}
-
-// A run of n instructions, refusals 1 to 3 first.
-pub fn run(memory: &mut [u16], input: &[u16], log: &mut [u16], cpu: Cpu, n: u32) -> Ran
-    ensures { runs input.now n (state_of cpu memory.old log.old) ≡ ended_by result memory.new log.new }
-{
-    let answer = check(memory, input, log, cpu);
-    if answer.number() != 0 {
-        return Ran {
-            cpu,
-            done: 0,
-            cycles: 0,
-            answer,
+        let cpu = Cpu {
+            core: stage.core,
+            count,
+        };
+        let acted = match instruction::carry_out(memory, input, log, cpu) {
+            Ok(acted) => acted,
+            Err(stop) => return stage.ended(count, Some(stop)),
+        };
+        count = acted.cpu.count;
+        stage = Stage {
+            core: acted.cpu.core,
+            done: stage.done + 1,
+            cycles: stage.cycles + acted.cycles,
         };
     }
-    carry_out_all(memory, input, log, cpu, n)
+}
+
+// Refusals 2 and 3, in order: 1 is no more where memory has its 4,096 words.
+#[tactic(auto, unfolding(crate::specs::Run::refusal))]
+fn check(memory: &[u16; 4096], input: &[u16], log: &[u16], cpu: Cpu) -> Result<(), Refusal>
+    ensures { refusal input.now (state_of cpu memory.now log.now) ≡ answered number result }
+{
+    let Cpu { core, count } = cpu;
+    if bus::is_past_end(input, core.place, log, count) {
+        return Err(Refusal::PastEnd);
+    }
+    if bus::is_outside(core.cp.0) | bus::is_outside(core.pp.0) {
+        return Err(Refusal::OutOfRange);
+    }
+    Ok(())
+}
+
+// A run of n instructions, refusals 1 to 3 first, which leave all as found.
+#[tactic(auto, using(crate::proofs::Laws::begun))]
+pub fn run(
+    memory: &mut [u16],
+    input: &[u16],
+    log: &mut [u16],
+    cpu: Cpu,
+    n: u32,
+) -> Result<Ran, Refusal>
+    ensures { runs input.now n (state_of cpu memory.old log.old) ≡ ended_by cpu result memory.new log.new }
+{
+    let memory: &mut [u16; 4096] = memory.as_mut_array().ok_or(Refusal::WrongSize)?;
+    check(memory, input, log, cpu)?;
+    Ok(carry_out_all(memory, input, log, cpu, n))
 }

@@ -1,125 +1,95 @@
--- Laws of lines, of the words that are shown, and of the answers.
-use Prim.Native.Nat.{ℕ, suc, ◌+◌, ◌-◌, ◌≤◌, ◌<◌}
-use mathlib.Core.Path.{◌≡◌, refl, sym, ap, ap₂, ◌∙◌}
+-- Laws of the first lines of a listing, of the words that are shown, and of the answers.
+use Prim.Native.Nat.{ℕ, zero, suc, ◌+◌, ◌≤◌, ◌<◌}
+use mathlib.Core.Path.{◌≡◌, refl, sym, ap, ◌∙◌}
 use mathlib.Core.Bool.{Bool, true, false, cond}
-use mathlib.Core.List.{List, [], ◌∷◌, ◌++◌}
+use mathlib.Core.List.{List, [], ◌∷◌, ◌++◌, append-nil, append_assoc}
+use native.Mathlib.Nat.{add-zero, zero-add, suc-add, add-suc}
 use native.Mathlib.Numerals.{add-one}
 use native.Mathlib.Omega.{arith}
-use borrow.Author.Tests.{eq-eqb, ne_eqb, lt-ltb, le-ltb, eqb-true, not-false}
+use borrow.Author.Tests.{eq-eqb, ne_eqb}
 use lib.Dec.{eqb}
-use lib.ListN.{length, get_or, take, drop, length-append, length-take, drop_of_length-le}
-use lib.Seq.{drop-cons, take-suc, length-take-le, get_or-take}
+use lib.ListN.{length, get_or, take, length-append}
+use Rattle.std.specs.Prelude.{Result, Ok, Err}
 use Rattle.microword.specs.Microword.{fields_of, normal_form}
-use Rattle.store.specs.Store.{wrong_store, words, control_word, first_bad}
-use Rattle.microtext.specs.Listing.{line, lines, up_to, shown, listing}
-use Rattle.lister.specs.Answers.{Outcome, number, named, refused, done, listed, seen}
-use Rattle.lister.specs.declared.Answer.{Answer}
-use Rattle.lister.specs.declared.Answer.TheVariants.{Done, WrongSize, SmallRoom, BadWord, PastRoom}
-use Rattle.lister.specs.declared.Listed.{Listed}
+use Rattle.microtext.specs.Listing.{line, lines, up_to, shown}
+use Rattle.lister.specs.Answers.{Outcome, listed, seen}
+use Rattle.lister.specs.declared.Refusal.{Refusal}
+use Rattle.lister.specs.declared.Refusal.TheVariants.{WrongSize, SmallRoom, BadWord, PastRoom}
 
--- The lines from one of a store's first words on.
-module _ (store : List ℕ) (count i w : ℕ) (within : count ≤ length (words store)) (h : i < count) (e : w ≡ control_word store i) where
-  pub lines_next : lines i (drop i (take count (words store))) ≡ line i (fields_of w) ++ lines (i + 1) (drop (i + 1) (take count (words store)))
-  unfolding lines
-  lines_next =
-      let inside : i < length (take count (words store)) = omega (arith, length-take-le count (words store) within) in
-      rw (add-one, drop-cons (take count (words store)) i 0 inside, get_or-take count (words store) i 0 h, e)
-
-  pub lines_length : length (lines i (drop i (take count (words store)))) ≡ length (line i (fields_of w)) + length (lines (i + 1) (drop (i + 1) (take count (words store))))
-  lines_length = ap length lines_next ∙ length-append (line i (fields_of w)) (lines (i + 1) (drop (i + 1) (take count (words store))))
-
-pub lines_end : (store : List ℕ) (count i : ℕ) → count ≤ i → lines i (drop i (take count (words store))) ≡ []
+-- One line more.
+lines_from : (ws : List ℕ) (n i : ℕ) → i < length ws → lines n (take (suc i) ws) ≡ lines n (take i ws) ++ line (n + i) (fields_of (get_or ws i 0))
 unfolding lines
-lines_end store count i h =
-    let past : length (take count (words store)) ≤ i = omega (arith, length-take count (words store)) in
-    rw (drop_of_length-le (take count (words store)) past)
+lines_from [] n i h = absurd (omega arith)
+lines_from (w ∷ ws) n zero h = rw (append-nil, add-zero)
+lines_from (w ∷ ws) n (suc i) h =
+    rw (lines_from ws (suc n) i (omega arith), suc-add, add-suc) (sym (append_assoc (line n (fields_of w)) (lines (suc n) (take i ws)) (line (suc (n + i)) (fields_of (get_or ws i 0)))))
 
--- A last word whose normal form is 0 is not shown; up to one whose normal form is not 0 all are.
-shown_without : (words : List ℕ) (w : ℕ) → normal_form w ≡ 0 → shown (words ++ w ∷ []) ≡ shown words
-unfolding shown up_to
-shown_without [] w e = rw (eq-eqb _ _ e)
-shown_without (x ∷ words) w e = rw (shown_without words w e)
+pub lines_more : (ws : List ℕ) (i : ℕ) → i < length ws → lines 0 (take (i + 1) ws) ≡ lines 0 (take i ws) ++ line i (fields_of (get_or ws i 0))
+lines_more ws i h = rw (add-one, lines_from ws 0 i h, zero-add)
 
-shown_all : (words : List ℕ) (w : ℕ) → (normal_form w ≡ 0 → ⊥) → shown (words ++ w ∷ []) ≡ words ++ w ∷ []
-unfolding shown up_to
-shown_all [] w e = rw (ne_eqb _ _ e)
-shown_all (x ∷ []) w e = rw (ne_eqb _ _ e)
-shown_all (x ∷ y ∷ words) w e = rw (shown_all (y ∷ words) w e)
-
--- The same of the first words of a store, the last of them at `count - 1`.
-take_last : (store : List ℕ) (count : ℕ) → 0 < count → count ≤ length store → take count store ≡ take (count - 1) store ++ (get_or store (count - 1) 0 ∷ [])
-take_last store count p h =
-    let e : suc (count - 1) ≡ count = omega arith in
-    ap (λ (n : ℕ). take n store) (sym e) ∙ take-suc store (count - 1) 0 (omega arith)
-
-pub last_hidden : (store : List ℕ) (count : ℕ) → 0 < count → count ≤ length store → normal_form (get_or store (count - 1) 0) ≡ 0
-    → shown (take (count - 1) store) ≡ shown (take count store)
-last_hidden store count p h e =
-    sym (ap shown (take_last store count p h) ∙ shown_without (take (count - 1) store) (get_or store (count - 1) 0) e)
-
-pub last_shown : (store : List ℕ) (count : ℕ) → 0 < count → count ≤ length store → (normal_form (get_or store (count - 1) 0) ≡ 0 → ⊥)
-    → count ≡ length (shown (take count store))
-last_shown store count p h e =
-    let t = take_last store count p h in
-    let s : shown (take count store) ≡ take count store = ap shown t ∙ shown_all (take (count - 1) store) (get_or store (count - 1) 0) e ∙ sym t in
-    sym (ap length s ∙ length-take-le count store h)
-
--- The words that are shown are the store's first.
-up_to_first : (w : ℕ) (words rest : List ℕ) → take (length rest) words ≡ rest → take (length (up_to w rest)) (w ∷ words) ≡ up_to w rest
-unfolding up_to
-up_to_first w words [] e = go (eqb (normal_form w) 0)
+-- The first lines are no longer than all.
+pub lines_le : (ws : List ℕ) (i : ℕ) → length (lines 0 (take i ws)) ≤ length (lines 0 ws)
+unfolding lines
+lines_le ws i = go ws 0 i
   where
-    go : (b : Bool) → take (length (cond b [] (w ∷ []))) (w ∷ words) ≡ cond b [] (w ∷ [])
-    go true = refl
-    go false = refl
-up_to_first w words (x ∷ rest) e = ap (λ (l : List ℕ). w ∷ l) e
+    go : (ws : List ℕ) (n i : ℕ) → length (lines n (take i ws)) ≤ length (lines n ws)
+    go [] n zero = omega arith
+    go [] n (suc i) = omega arith
+    go (w ∷ ws) n zero = omega arith
+    go (w ∷ ws) n (suc i) = simp length-append (omega (arith, go ws (suc n) i))
 
-pub shown_first : (words : List ℕ) → take (length (shown words)) words ≡ shown words
+-- Last words whose normal form is 0 are not shown; up to one whose normal form is not 0 all are.
+pub shown_none : (ws : List ℕ) → ((k : ℕ) → k < length ws → normal_form (get_or ws k 0) ≡ 0) → shown ws ≡ []
+unfolding shown up_to
+shown_none [] none = refl
+shown_none (w ∷ ws) none = rw (shown_none ws (λ k h. none (suc k) (omega arith)), eq-eqb _ _ (none 0 (omega arith)))
+
+pub shown_to : (ws : List ℕ) (last : ℕ) → last < length ws → (normal_form (get_or ws last 0) ≡ 0 → ⊥)
+    → ((k : ℕ) → last + 1 ≤ k → k < length ws → normal_form (get_or ws k 0) ≡ 0) → shown ws ≡ take (last + 1) ws
+unfolding shown up_to
+shown_to [] last h there none = absurd (omega arith)
+shown_to (w ∷ ws) zero h there none = rw (shown_none ws (λ k l. none (suc k) (omega arith) (omega arith)), ne_eqb _ _ there)
+shown_to (w ∷ []) (suc last) h there none = absurd (omega arith)
+shown_to (w ∷ x ∷ ws) (suc last) h there none =
+    rw (add-one, rw add-one at (shown_to (x ∷ ws) last (omega arith) there (λ k a b. none (suc k) (omega arith) (omega arith))))
+
+-- No more words are shown than there are.
+up_to_le : (w : ℕ) (ws : List ℕ) → length (up_to w ws) ≤ suc (length ws)
+unfolding up_to
+up_to_le w [] = go (eqb (normal_form w) 0)
+  where
+    go : (b : Bool) → length (cond b [] (w ∷ [])) ≤ 1
+    go true = omega arith
+    go false = omega arith
+up_to_le w (x ∷ ws) = omega arith
+
+pub shown_le : (ws : List ℕ) → length (shown ws) ≤ length ws
 unfolding shown
-shown_first [] = refl
-shown_first (w ∷ words) = up_to_first w words (shown words) (shown_first words)
-
-pub shown_le : (words : List ℕ) → length (shown words) ≤ length words
-shown_le words = omega (arith, ap length (shown_first words), length-take (length (shown words)) words)
-
--- A store of the right size has 64 words.
-pub sized : (store : List ℕ) → wrong_store store ≡ false → length (words store) ≡ 64
-sized store e = eqb-true (length (words store)) 64 (not-false _ e)
-
--- The words of the first `count` lines are those that are shown.
-pub first_shown : (store : List ℕ) (count : ℕ) → count ≡ length (shown (words store)) → take count (words store) ≡ shown (words store)
-first_shown store count e = ap (λ (n : ℕ). take n (words store)) e ∙ shown_first (words store)
-
--- The answers that come after the three tests.
-module _ (store room : List ℕ) (right : wrong_store store ≡ false) (wide : 2816 ≤ length room) (good : 64 ≤ first_bad store) where
-  none_bad : length (words store) ≤ first_bad store
-  none_bad = omega (arith, sized store right)
-
-  pub past_room : length room < length (listing (words store)) → listed store room ≡ refused 17 0 room
-  unfolding listed
-  past_room h = rw (right, le-ltb _ _ wide, le-ltb _ _ none_bad, lt-ltb _ _ h)
-
-  pub all_done : length (listing (words store)) ≤ length room → listed store room ≡ done (listing (words store)) room
-  unfolding listed
-  all_done h = rw (right, le-ltb _ _ wide, le-ltb _ _ none_bad, le-ltb _ _ h)
+shown_le [] = omega arith
+shown_le (w ∷ ws) = omega (arith, up_to_le w (shown ws), shown_le ws)
 
 -- An answer is known by its number and the line that it names.
-abbrev answer_of : ℕ → ℕ → Answer
-answer_of answer line =
-    cond (eqb answer 0) Done (cond (eqb answer 1) WrongSize (cond (eqb answer 16) SmallRoom (cond (eqb answer 4) (BadWord (record { 0 = line })) PastRoom)))
+abbrev answer_of : ℕ → ℕ → ℕ → Result ℕ Refusal
+answer_of answer line length =
+    cond (eqb answer 0) (Ok length)
+    (cond (eqb answer 1) (Err WrongSize) (cond (eqb answer 16) (Err SmallRoom) (cond (eqb answer 4) (Err (BadWord (record { 0 = line }))) (Err PastRoom))))
 
-answer_back : (answer : Answer) → answer_of (number answer) (named answer) ≡ answer
-answer_back Done = refl
-answer_back WrongSize = refl
-answer_back SmallRoom = refl
-answer_back (BadWord line) = refl
-answer_back PastRoom = refl
+answer_back : (r : Result ℕ Refusal) (left : List ℕ) → answer_of (seen r left).answer (seen r left).line (seen r left).length ≡ r
+answer_back (Ok length) left = refl
+answer_back (Err WrongSize) left = refl
+answer_back (Err SmallRoom) left = refl
+answer_back (Err (BadWord line)) left = refl
+answer_back (Err PastRoom) left = refl
+
+room_back : (r : Result ℕ Refusal) (left : List ℕ) → (seen r left).room ≡ left
+room_back (Ok length) left = refl
+room_back (Err refusal) left = refl
 
 -- No second answer: what the lister promises fixes the answer, the length and the room.
-pub only : (store room : List ℕ) (r r' : Listed) (left left' : List ℕ) → listed store room ≡ seen r left → listed store room ≡ seen r' left'
+pub only : (store room : List ℕ) (r r' : Result ℕ Refusal) (left left' : List ℕ) → listed store room ≡ seen r left → listed store room ≡ seen r' left'
     → (r ≡ r') × (left ≡ left')
 only store room r r' left left' p q =
-    let e = sym p ∙ q in
-    let a : r.answer ≡ r'.answer =
-    sym (answer_back r.answer) ∙ ap (λ (o : Outcome). answer_of o.answer o.line) e ∙ answer_back r'.answer in
-    (ap₂ {C = Listed} (λ (x : Answer) (n : ℕ). record { answer = x; length = n }) a (ap (λ (o : Outcome). o.length) e), ap (λ (o : Outcome). o.room) e)
+    let e = sym p ∙ q in (
+      sym (answer_back r left) ∙ ap (λ (o : Outcome). answer_of o.answer o.line o.length) e ∙ answer_back r' left',
+      sym (room_back r left) ∙ ap (λ (o : Outcome). o.room) e ∙ room_back r' left',
+    )

@@ -1,10 +1,10 @@
 -- What a call of the lister answers and leaves (01, Answer numbers: 1, 16, 4, 17 in this order, then 0).
-use Rattle.std.specs.Prelude.{ℕ, cond, List, ◌++◌, ltb, length, drop}
+use Rattle.std.specs.Prelude.{ℕ, cond, List, ◌++◌, Option, Some, None, Result, Ok, Err, ltb, length, drop}
+use Rattle.word.specs.declared.Line.{Line}
 use Rattle.store.specs.Store.{wrong_store, words, first_bad}
 use Rattle.microtext.specs.Listing.{listing}
-use Rattle.lister.specs.declared.Listed.{Listed}
-use Rattle.lister.specs.declared.Answer.{Answer}
-use Rattle.lister.specs.declared.Answer.TheVariants.{Done, WrongSize, SmallRoom, BadWord, PastRoom}
+use Rattle.lister.specs.declared.Refusal.{Refusal}
+use Rattle.lister.specs.declared.Refusal.TheVariants.{WrongSize, SmallRoom, BadWord, PastRoom}
 
 -- The answer's number, the line that 4 names, the listing's length, and the room.
 pub record Outcome : Type 0 where
@@ -13,25 +13,29 @@ pub record Outcome : Type 0 where
   pub length : ℕ
   pub room : List ℕ
 
--- Document 01's number of each answer.
-abbrev pub number : Answer → ℕ
-number Done = 0
+-- Document 01's number of each refusal; a listing is answer 0.
+abbrev pub number : Refusal → ℕ
 number WrongSize = 1
 number SmallRoom = 16
 number (BadWord line) = 4
 number PastRoom = 17
 
--- The line that an answer names, 0 where it names none.
-abbrev pub named : Answer → ℕ
-named Done = 0
-named WrongSize = 0
-named SmallRoom = 0
-named (BadWord line) = line.0
-named PastRoom = 0
+-- The line that a refusal names.
+abbrev pub line_of : Refusal → Option Line
+line_of WrongSize = None
+line_of SmallRoom = None
+line_of (BadWord line) = Some line
+line_of PastRoom = None
+
+-- Its number, 0 where none is named.
+abbrev pub named : Option Line → ℕ
+named (Some line) = line.0
+named None = 0
 
 -- What a caller sees of a call that leaves the room at `left`.
-abbrev pub seen : Listed → List ℕ → Outcome
-seen r left = record { answer = number r.answer; line = named r.answer; length = r.length; room = left }
+abbrev pub seen : Result ℕ Refusal → List ℕ → Outcome
+seen (Ok length) left = record { answer = 0; line = 0; length = length; room = left }
+seen (Err refusal) left = record { answer = number refusal; line = named (line_of refusal); length = 0; room = left }
 
 -- A refusal leaves the room as found.
 abbrev pub refused : ℕ → ℕ → List ℕ → Outcome

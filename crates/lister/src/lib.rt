@@ -1,140 +1,106 @@
 // The lister: a control store into its micro text.
 #![tactic(auto)]
 
-ghost use Rattle.std.specs.Prelude.{◌≡◌, ◌≤◌, length, take};
+ghost use Rattle.std.specs.Prelude.{◌≡◌, ◌≤◌, length};
 ghost use Rattle.microtext.specs.Listing.{lines, shown};
 ghost use Rattle.text.specs.Laid.{Wrote};
-ghost use Rattle.store.specs.Store.{words};
-ghost use Rattle.lister.specs.Answers.{number, named, listed, seen};
+ghost use Rattle.lister.specs.Answers.{number, line_of, listed, seen};
 
 use microword::normal;
 use word::Line;
 
-// What a call answers; a bad word's line is named.
-#[derive(Clone, Copy)]
-pub enum Answer {
-    Done,
+// Why a store is not listed; a bad word's line is named.
+#[derive(Clone, Copy, Debug, PartialEq, Eq)]
+pub enum Refusal {
     WrongSize,
     SmallRoom,
     BadWord(Line),
     PastRoom,
 }
 
-// The answer, and the listing's length.
-#[derive(Clone, Copy)]
-pub struct Listed {
-    pub answer: Answer,
-    pub length: usize,
-}
+impl From<Refusal> for u32 {
+    ghost from_gives = { λ refusal n. n ≡ number refusal };
 
-impl Answer {
-    // Document 01's number of it.
-    pub fn number(self) -> u32
-        ensures { result ≡ number self }
-    {
-        match self {
-            Answer::Done => 0,
-            Answer::WrongSize => 1,
-            Answer::SmallRoom => 16,
-            Answer::BadWord(_) => 4,
-            Answer::PastRoom => 17,
-        }
-    }
-
-    // The line that answer 4 names, else 0.
-    pub fn line(self) -> usize
-        ensures { result ≡ named self }
-    {
-        match self {
-            Answer::Done => 0,
-            Answer::WrongSize => 0,
-            Answer::SmallRoom => 0,
-            Answer::BadWord(line) => line.0 as usize,
-            Answer::PastRoom => 0,
+    fn from(refusal: Refusal) -> u32 {
+        match refusal {
+            Refusal::WrongSize => 1,
+            Refusal::SmallRoom => 16,
+            Refusal::BadWord(_) => 4,
+            Refusal::PastRoom => 17,
         }
     }
 }
 
-// How long the first `count` lines are together: known before the room is touched, so that a refusal leaves it as found.
-fn lines_length(store: &[u32], count: usize) -> usize
-    requires { (count ≤ 64) × (count ≤ length (words store.now)) }
-    ensures { result ≡ length (lines 0 (take count (words store.now))) }
+impl Refusal {
+    // The line that answer 4 names.
+    pub fn line(self) -> Option<Line>
+        ensures { result ≡ line_of self }
+    {
+        match self {
+            Refusal::BadWord(line) => Some(line),
+            _ => None,
+        }
+    }
+}
+
+// The longest line is of 44 bytes; each is made in a buffer of so many, since there is no heap.
+const LINE: usize = 44;
+
+// How long the lines of these words are together: known before the room is touched, so that a refusal leaves it as found.
+fn lines_length(words: &[u32]) -> usize
+    requires { length words.now ≤ 64 }
+    ensures { result ≡ length (lines 0 words.now) }
 {
-    let mut buffer = [0u8; 44];
+    let mut buffer = [0u8; LINE];
     let mut sum: usize = 0;
-    let mut i: usize = 0;
-    while i < count {
-        let word = store::word_at(store, Line(i as u8));
+    for (i, &word) in words.iter().enumerate() {
         sum += microline::put_line(&mut buffer, i as u32, word);
-        i += 1;
     }
     sum
 }
 
-// The first `count` lines, each made in a buffer and copied to the room.
-fn put_lines(room: &mut [u8], store: &[u32], count: usize) -> usize
-    requires { (count ≤ 64) × (count ≤ length (words store.now)) × (length (lines 0 (take count (words store.now))) ≤ length room.old) }
-    ensures { Wrote room.old 0 (lines 0 (take count (words store.now))) room.new result }
+// The lines of these words, each made in a buffer and copied to the room.
+fn put_lines(room: &mut [u8], words: &[u32]) -> usize
+    requires few { length words.now ≤ 64 }
+    requires fits { length (lines 0 words.now) ≤ length room.old }
+    ensures { Wrote room.old 0 (lines 0 words.now) room.new result }
 {
-    let mut buffer = [0u8; 44];
+    let mut buffer = [0u8; LINE];
     let mut at: usize = 0;
-    let mut i: usize = 0;
-    while i < count {
-        let word = store::word_at(store, Line(i as u8));
+    for (i, &word) in words.iter().enumerate() {
         let n = microline::put_line(&mut buffer, i as u32, word);
         at = text::put(room, at, &buffer[..n]);
-        i += 1;
     }
     at
 }
 
-// How many words there are up to the last whose normal form is not 0.
-#[tactic(auto, using(crate::proofs::Laws::last_shown, crate::proofs::Laws::last_hidden))]
-fn shown_words(store: &[u32]) -> usize
-    requires { length (words store.now) ≡ 64 }
-    ensures { result ≡ length (shown (words store.now)) }
+// The words up to the last whose normal form is not 0.
+fn shown_words(store: &[u32]) -> &[u32]
+    ensures { result.now ≡ shown store.now }
 {
-    let mut count: usize = 64;
-    while 0 < count {
-        let word = store::word_at(store, Line((count - 1) as u8));
-        let form = normal(word);
-        if form != 0 {
-            return count;
-        }
-        count -= 1;
+    match store.iter().rposition(|&word| normal(word) != 0) {
+        Some(last) => &store[..=last],
+        None => &[],
     }
-    count
 }
 
-// A refusal has no listing.
-fn refused(answer: Answer) -> Listed
-    ensures { result ≡ record { answer = answer; length = 0 } }
-{
-    Listed { answer, length: 0 }
-}
-
-// The listing of a store, at the start of a room.
-#[tactic(auto, unfolding(crate::specs::Answers::listed))]
-pub fn list(store: &[u32], room: &mut [u8]) -> Listed
+// The listing of a store, at the start of a room, and its length.
+#[tactic(auto, unfolding(crate::specs::Answers::listed), using(crate::proofs::Laws::shown_le))]
+pub fn list(store: &[u32], room: &mut [u8]) -> Result<usize, Refusal>
     ensures { listed store.now room.old ≡ seen result room.new }
 {
     if store::is_wrong(store) {
-        return refused(Answer::WrongSize);
+        return Err(Refusal::WrongSize);
     }
     if room.len() < 2816 {
-        return refused(Answer::SmallRoom);
+        return Err(Refusal::SmallRoom);
     }
-    let bad = store::first_bad(store);
-    if bad < 64 {
-        return refused(Answer::BadWord(Line(bad as u8)));
+    if let Some(line) = store::first_bad(store) {
+        return Err(Refusal::BadWord(Line(line as u8)));
     }
-    let count = shown_words(store);
-    if room.len() < lines_length(store, count) {
-        return refused(Answer::PastRoom);
+    let words = shown_words(store);
+    if room.len() < lines_length(words) {
+        return Err(Refusal::PastRoom);
     }
-    let length = put_lines(room, store, count);
-    Listed {
-        answer: Answer::Done,
-        length,
-    }
+    Ok(put_lines(room, words))
 }

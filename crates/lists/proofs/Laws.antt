@@ -9,7 +9,8 @@ use Rattle.datapath.specs.declared.Half.{Half}
 use Rattle.datapath.specs.declared.Half.TheVariants.{Nothing, Read, Write}
 use Rattle.engine.specs.declared.Machine.{Machine}
 use Rattle.lists.specs.Called.{Called}
-use Rattle.lists.specs.Engine.{half_of, half_number, line_of, state_list, machine_of}
+use Rattle.datapath.specs.Halves.{half_number}
+use Rattle.lists.specs.Engine.{half_of, line_of, state_list, machine_of}
 
 -- Half done comes back from its number, which is at most 2.
 half_back : (half : Half) → half_of (half_number half) ≡ half

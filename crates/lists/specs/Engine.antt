@@ -1,20 +1,19 @@
 -- The engine's machine as lists of numbers, and what a run leaves in them (01, Registers and microwords; Answer numbers).
-use Rattle.std.specs.Prelude.{ℕ, Bool, cond, ◌&&◌, List, [], ◌∷◌, get_or, ltb, eqb}
+use Rattle.std.specs.Prelude.{ℕ, Result, Ok, Err, Bool, cond, ◌&&◌, List, [], ◌∷◌, get_or, ltb, eqb}
+use Rattle.datapath.specs.Halves.{half_number}
 use Rattle.datapath.specs.declared.Half.{Half}
 use Rattle.datapath.specs.declared.Half.TheVariants.{Nothing, Read, Write}
+use Rattle.bus.specs.Stops.{number_of}
 use Rattle.engine.specs.declared.Machine.{Machine}
+use Rattle.engine.specs.declared.Ran.{Ran}
+use Rattle.engine.specs.declared.Refusal.{Refusal}
+use Rattle.panel.specs.declared.Pressed.{Pressed}
 use Rattle.engine.specs.Run.{Ended}
 use Rattle.lists.specs.Called.{Called}
 
 -- Half done by its number: 0 nothing, 1 a read, else a write.
 unfoldable pub half_of : ℕ → Half
 half_of number = cond (eqb number 0) Nothing (cond (eqb number 1) Read Write)
-
--- The number of what is half done.
-abbrev pub half_number : Half → ℕ
-half_number Nothing = 0
-half_number Read = 1
-half_number Write = 2
 
 -- A half done above 2 and a line above 63 are none of the machine's: they go as line 64, which the engine refuses by 3, in its order.
 unfoldable pub line_of : ℕ → ℕ → ℕ
@@ -50,3 +49,8 @@ leaves e registers state =
       log = e.state.log;
       told = e.done ∷ e.said.line ∷ [];
     }
+
+-- A press as the run of 1 that it is: it carried out its cycle where nothing stopped it.
+abbrev pub counted : Result Pressed Refusal → Result Ran Refusal
+counted (Ok pressed) = Ok (record { machine = pressed.machine; done = cond (eqb (number_of pressed.stop) 0) 1 0; stop = pressed.stop })
+counted (Err refusal) = Err refusal

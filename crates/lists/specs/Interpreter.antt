@@ -9,10 +9,13 @@ use Rattle.lists.specs.Called.{Called}
 abbrev pub cpu_of : List ℕ → List ℕ → Cpu
 cpu_of registers state =
     record {
-      cp = record { 0 = get_or registers 0 0 };
-      ac = get_or registers 1 0;
-      pp = record { 0 = get_or registers 2 0 };
-      place = get_or state 0 0;
+      core =
+          record {
+            cp = record { 0 = get_or registers 0 0 };
+            ac = get_or registers 1 0;
+            pp = record { 0 = get_or registers 2 0 };
+            place = get_or state 0 0;
+          };
       count = get_or state 1 0;
     }
 

@@ -1,187 +1,175 @@
-// One line of a listing: its number and the parts of a control word, put together from pieces of a table.
+// One line of a listing: its number and the parts of a control word, put together from pieces.
 #![tactic(auto)]
 
-ghost use Rattle.std.specs.Prelude.{◌≡◌, [], ◌∷◌, ◌++◌, ◌+◌, ◌<◌, ◌≤◌, length};
-ghost use Rattle.microword.specs.Code.Within.{Within};
-ghost use Rattle.microtext.specs.Listing.{transfer_part};
+ghost use Rattle.std.specs.Prelude.{◌≡◌, [], ◌∷◌, ◌++◌, ◌+◌, ◌*◌, ◌/◌, ◌%◌, ◌<◌, ◌≤◌, length, get_or, take, drop};
+ghost use Rattle.microtext.specs.Listing.{register_name, formula, destination, operation_part, transfer_part, jump_texts, jump_part};
 ghost use Rattle.text.specs.Laid.{Wrote};
 ghost use Rattle.text.specs.Decimal.{short_decimal};
 ghost use Rattle.microline.specs.Line.{laid_line};
-ghost use Rattle.microline.specs.Code.Pieces.{table, Chosen, spelt, Known, Spells, to, first, second, target, texts as pieces_texts, starts as pieces_starts, parts as pieces_parts};
+ghost use Rattle.microline.specs.Code.Pieces.{spelt};
 
-use microword::{Fields, fields_of};
+use microword::{Fields, fields_of, is_idle};
 
-// Where each kind of piece begins in the table: the signs before the register a by F, registers, the signs behind it by F,
-// registers with the semicolon, transfers, and the words of a jump by SQ, the first of which is empty. Destinations stand first.
-const BEFORE: usize = 9;
-
-const REGISTERS: usize = 17;
-
-const BEHIND: usize = 25;
-
-const SECONDS: usize = 33;
-
-const TRANSFERS: usize = 41;
-
-const NONE: usize = 43;
-
-// Where each piece starts in the table's text; it ends where the next one starts. Bytes, since the table is laid out anew for each line.
-const STARTS: [u8; 48] = [
-    0, 5, 10, 15, 20, 25, 32, 38, 44, 50, 50, 50, 50, 50, 50, 50, 52, 54, 56, 58, 60, 62, 64, 68,
-    71, 74, 74, 77, 80, 81, 82, 83, 83, 83, 86, 89, 92, 95, 98, 103, 107, 111, 115, 119, 119, 135,
-    151, 157,
-];
-
-// Pieces of the table, one behind the other: the table's text, where each piece starts in it, and which pieces.
-fn put_pieces(room: &mut [u8], from: usize, texts: &[u8], starts: &[u8], which: &[usize]) -> usize
-    requires table { (texts.now ≡ pieces_texts table) × (starts.now ≡ pieces_starts 0 table) }
-    requires known { Known which.now × (from + length (spelt which.now) ≤ length room.old) }
-    ensures { Wrote room.old from (spelt which.now) room.new result }
+// Pieces, one behind the other.
+fn put_pieces(room: &mut [u8], pieces: &[&[u8]]) -> usize
+    requires { length (spelt pieces.now) ≤ length room.old }
+    ensures { Wrote room.old 0 (spelt pieces.now) room.new result }
 {
-    let mut at = from;
-    let mut i: usize = 0;
-    while i < which.len() {
-        let k = which[i];
-        let start = starts[k] as usize;
-        let end = starts[k + 1] as usize;
-        at = text::put(room, at, &texts[start..end]);
-        i += 1;
+    let mut at: usize = 0;
+    for piece in pieces {
+        at = text::put(room, at, piece);
     }
     at
 }
 
-// Where the operation stores; `alu` stores nothing.
-#[tactic(auto, using(crate::proofs::Laws::chosen_alu))]
-fn destination(m: Fields) -> usize
-    requires { Within m }
-    ensures { Chosen result (to m) }
+fn register<'a>(r: u32) -> &'a [u8]
+    ensures { result.now ≡ register_name r }
+{
+    match r {
+        0 => b"cp",
+        1 => b"ac",
+        2 => b"pp",
+        3 => b"ri",
+        4 => b"rt",
+        5 => b"masc",
+        6 => b"rem",
+        7 => b"rdm",
+        _ => b"",
+    }
+}
+
+// Where the operation stores, with the space before and the sign behind; `alu` stores nothing.
+fn destination<'a>(m: Fields) -> &'a [u8]
+    ensures { result.now ≡ (32 ∷ []) ++ destination m ++ (58 ∷ 61 ∷ []) }
 {
     if m.hs == 0 {
-        return 8;
+        return b" alu:=";
     }
-    m.s as usize
+    match m.s {
+        0 => b" cp:=",
+        1 => b" ac:=",
+        2 => b" pp:=",
+        3 => b" ri:=",
+        4 => b" rt:=",
+        5 => b" masc:=",
+        6 => b" rem:=",
+        7 => b" rdm:=",
+        _ => b" :=",
+    }
 }
 
-// The register a, with the operation's semicolon where nothing stands behind it.
-fn first_of(m: Fields) -> usize
-    requires { Within m }
-    ensures { Chosen result (first m) }
+// What F computes of the registers a and b.
+#[tactic(auto, unfolding(microtext::specs::Listing::formulas))]
+fn formula<'a>(m: Fields) -> [&'a [u8]; 3]
+    ensures { spelt result ≡ formula m }
 {
-    let f = m.f;
-    if (f == 0) | (f == 6) | (f == 7) {
-        return SECONDS + m.a as usize;
+    let a = register(m.a);
+    let b = register(m.b);
+    match m.f {
+        0 => [a, b"", b""],
+        1 => [a, b"+1", b""],
+        2 => [a, b"-1", b""],
+        3 => [a, b"+", b],
+        4 => [a, b"-", b],
+        5 => [a, b"^", b],
+        6 => [b"<<", a, b""],
+        7 => [b">>", a, b""],
+        _ => [b"", b"", b""],
     }
-    REGISTERS + m.a as usize
 }
 
-// The register b with the operation's semicolon, where F takes one.
-fn second_of(m: Fields) -> usize
-    requires { Within m }
-    ensures { Chosen result (second m) }
+// The operation; none where nothing asks for its result.
+#[tactic(auto, unfolding(microtext::specs::Listing::operation))]
+fn operation<'a>(m: Fields) -> [&'a [u8]; 5]
+    ensures { spelt result ≡ operation_part m }
 {
-    let f = m.f;
-    if (f == 3) | (f == 4) | (f == 5) {
-        return SECONDS + m.b as usize;
+    if is_idle(m) {
+        return [b"", b"", b"", b"", b""];
     }
-    NONE
+    let [x, y, z] = formula(m);
+    [destination(m), x, y, z, b";"]
 }
 
 // `rd` or `wr`, where the word has one.
-fn transfer(m: Fields) -> usize
-    ensures { Chosen result (transfer_part m) }
+fn transfer<'a>(m: Fields) -> &'a [u8]
+    ensures { result.now ≡ transfer_part m }
 {
     if m.rd == 1 {
-        return TRANSFERS;
+        return b" rd;";
     }
     if m.wr == 1 {
-        return TRANSFERS + 1;
+        return b" wr;";
     }
-    NONE
+    b""
 }
 
-// The pieces of a word's parts up to a jump's target. No operation where nothing asks for its result; else a sign
-// before the register a, or a sign behind it, or a sign and the register b.
-fn parts(m: Fields) -> [usize; 7]
-    requires { Within m }
-    ensures { Spells result (pieces_parts m) }
+// The words of a jump by SQ, with the space before.
+#[tactic(auto, unfolding(microtext::specs::Listing::jump_texts))]
+fn jump_words<'a>(sq: u32) -> &'a [u8]
+    ensures { result.now ≡ 32 ∷ get_or jump_texts sq [] }
 {
-    let moved = transfer(m);
-    let sq = m.sq;
-    let jump = NONE + sq as usize;
-    if (m.hs == 0) & ((sq == 0) | (sq == 3)) {
-        return [NONE, NONE, NONE, NONE, NONE, moved, jump];
+    match sq {
+        1 => b" if n then goto ",
+        2 => b" if z then goto ",
+        3 => b" goto ",
+        _ => b" ",
     }
-    let f = m.f as usize;
-    let before = BEFORE + f;
-    let behind = BEHIND + f;
-    [
-        destination(m),
-        before,
-        first_of(m),
-        behind,
-        second_of(m),
-        moved,
-        jump,
-    ]
 }
 
-// A word's parts up to a jump's target.
-fn put_parts(room: &mut [u8], at: usize, m: Fields) -> usize
-    requires { Within m × (at + length (pieces_parts m) ≤ length room.old) }
-    ensures { Wrote room.old at (pieces_parts m) room.new result }
-{
-    let which = parts(m);
-    put_pieces(
-        room,
-        at,
-        b" cp:= ac:= pp:= ri:= rt:= masc:= rem:= rdm:= alu:=<<>>cpacpprirtmascremrdm+1;-1;+-^cp;ac;pp;ri;rt;masc;rem;rdm; rd; wr; if n then goto  if z then goto  goto ",
-        &STARTS,
-        &which,
-    )
-}
-
-// A number below 100 in decimal, and the mark behind it.
-#[tactic(auto, unfolding(text::specs::Decimal::short_decimal))]
-fn put_number(room: &mut [u8], at: usize, k: u32, mark: u8) -> usize
-    requires { (k < 100) × (at + length (short_decimal k) + 1 ≤ length room.old) }
-    ensures { Wrote room.old at (short_decimal k ++ mark ∷ []) room.new result }
-{
-    if k < 10 {
-        room[at] = (48 + k) as u8;
-        room[at + 1] = mark;
-        return at + 2;
-    }
-    room[at] = (48 + k / 10) as u8;
-    room[at + 1] = (48 + k % 10) as u8;
-    room[at + 2] = mark;
-    at + 3
-}
-
-// A jump's target, where SQ asks for one.
-fn put_target(room: &mut [u8], at: usize, m: Fields) -> usize
-    requires { Within m × (at + length (target m) ≤ length room.old) }
-    ensures { Wrote room.old at (target m) room.new result }
+// The jump, to a target with its semicolon; none where SQ is 0.
+#[tactic(auto, unfolding(microtext::specs::Listing::jump))]
+fn jump<'a>(m: Fields, target: &'a [u8]) -> [&'a [u8]; 2]
+    requires { target.now ≡ short_decimal m.end ++ 59 ∷ [] }
+    ensures { spelt result ≡ jump_part m }
 {
     if m.sq == 0 {
-        return at;
+        return [b"", b""];
     }
-    put_number(room, at, m.end, b';')
+    [jump_words(m.sq), target]
 }
 
-// A control word as a line, from the start of the room. A smaller room than a line may need, or a number that no line has, is left as found.
+// A number below 100 as two digits, and the mark behind it.
+fn digits(k: u32, mark: u8) -> [u8; 3]
+    requires { k < 100 }
+    ensures { result ≡ (48 + k / 10) ∷ (48 + k % 10) ∷ mark ∷ [] }
+{
+    [b'0' + (k / 10) as u8, b'0' + (k % 10) as u8, mark]
+}
+
+// Such digits in decimal: no leading zero.
+#[tactic(auto, unfolding(text::specs::Decimal::short_decimal))]
+fn short(k: u32, digits: &[u8; 3]) -> &[u8]
+    requires { take 2 digits.now ≡ (48 + k / 10) ∷ (48 + k % 10) ∷ [] }
+    ensures { result.now ≡ short_decimal k ++ drop 2 digits.now }
+{
+    if k < 10 {
+        return &digits[1..];
+    }
+    digits
+}
+
+// The pieces of a line, of its number with the colon and its jump's target with the semicolon.
+fn pieces<'a>(number: &'a [u8], m: Fields, target: &'a [u8]) -> [&'a [u8]; 10]
+    requires { target.now ≡ short_decimal m.end ++ 59 ∷ [] }
+    ensures { spelt result ≡ number.now ++ operation_part m ++ transfer_part m ++ jump_part m ++ 10 ∷ [] }
+{
+    let [to, x, y, z, stop] = operation(m);
+    let moved = transfer(m);
+    let [words, goal] = jump(m, target);
+    [number, to, x, y, z, stop, moved, words, goal, b"\n"]
+}
+
+// A control word as a line, from the start of the room. A smaller room than a line may need, or a number that no line has, is left as found;
+// the answer is then 0 and no None, as `laid_line` says for every room, number and word.
+#[tactic(auto, unfolding(crate::specs::Line::laid_line))]
 pub fn put_line(room: &mut [u8], number: u32, word: u32) -> usize
     ensures { laid_line room.old number word ≡ record { room = room.new; next = result } }
 {
-    if room.len() < 44 {
-        return 0;
-    }
-    if 63 < number {
+    if room.len() < 44 || 63 < number {
         return 0;
     }
     let m = fields_of(word);
-    let colon = put_number(room, 0, number, b':');
-    let behind = put_parts(room, colon, m);
-    let end = put_target(room, behind, m);
-    room[end] = 10;
-    end + 1
+    let own = digits(number, b':');
+    let end = digits(m.end, b';');
+    put_pieces(room, &pieces(short(number, &own), m, short(m.end, &end)))
 }

@@ -2,12 +2,12 @@
 #![tactic(auto)]
 
 ghost use Rattle.std.specs.Prelude.{◌≡◌, cond};
-ghost use Rattle.microword.specs.Microword.{fields_of, word_of, bad_word, normal_fields, normal_form};
+ghost use Rattle.microword.specs.Microword.{fields_of, word_of, bad_word, idle, normal_fields, normal_form};
 
 use word::{put_below, take};
 
-// The nine fields, highest first.
-#[derive(Clone, Copy)]
+// The nine fields, highest first. They are numbers and no enums or flags: `word_of`'s clause and the definitions answer for any numbers.
+#[derive(Clone, Copy, Debug, PartialEq, Eq)]
 pub struct Fields {
     pub a: u32,
     pub b: u32,
@@ -20,6 +20,7 @@ pub struct Fields {
     pub end: u32,
 }
 
+#[tactic(auto, unfolding(crate::specs::Microword::fields_of))]
 pub fn fields_of(word: u32) -> Fields
     ensures { result ≡ fields_of word }
 {
@@ -36,6 +37,7 @@ pub fn fields_of(word: u32) -> Fields
     }
 }
 
+#[tactic(auto, unfolding(crate::specs::Microword::word_of, word::specs::Number::joined))]
 pub fn word_of(fields: Fields) -> u32
     ensures { result ≡ word_of fields }
 {
@@ -51,10 +53,11 @@ pub fn word_of(fields: Fields) -> u32
 }
 
 // More than 23 bits, or RD and WR both 1.
+#[tactic(auto, unfolding(crate::specs::Microword::bad_word, crate::specs::Microword::fields_of))]
 pub fn is_bad(word: u32) -> bool
     ensures { result ≡ bad_word word }
 {
-    (8388608 <= word) | ((take(word, 9, 1) == 1) & (take(word, 8, 1) == 1))
+    8388608 <= word || (take(word, 9, 1) == 1 && take(word, 8, 1) == 1)
 }
 
 // A value, or 0 where its field is without use.
@@ -64,25 +67,32 @@ fn used(without_use: bool, value: u32) -> u32
     if without_use { 0 } else { value }
 }
 
+// Nothing asks for the result.
+#[tactic(auto, unfolding(crate::specs::Microword::idle))]
+pub fn is_idle(m: Fields) -> bool
+    ensures { result ≡ idle m }
+{
+    m.hs == 0 && matches!(m.sq, 0 | 3)
+}
+
 // The fields with 0 wherever one is without use.
+#[tactic(auto, unfolding(crate::specs::Microword::normal_fields, crate::specs::Microword::binary))]
 pub fn normal_fields(m: Fields) -> Fields
     ensures { result ≡ normal_fields m }
 {
-    let idle = (m.hs == 0) & ((m.sq == 0) | (m.sq == 3));
-    let binary = (m.f == 3) | (m.f == 4) | (m.f == 5);
+    let idle = is_idle(m);
+    let binary = matches!(m.f, 3 | 4 | 5);
     Fields {
         a: used(idle, m.a),
-        b: used(idle | !binary, m.b),
+        b: used(idle || !binary, m.b),
         s: used(m.hs == 0, m.s),
-        hs: m.hs,
         f: used(idle, m.f),
-        rd: m.rd,
-        wr: m.wr,
-        sq: m.sq,
         end: used(m.sq == 0, m.end),
+        ..m
     }
 }
 
+#[tactic(auto, unfolding(crate::specs::Microword::normal_form))]
 pub fn normal(word: u32) -> u32
     ensures { result ≡ normal_form word }
 {

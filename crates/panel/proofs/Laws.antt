@@ -1,17 +1,24 @@
 -- The law of a press: no second answer. Its promise fixes what is answered, the machine record, memory and log.
-use Prim.Native.Nat.{ℕ}
-use mathlib.Core.Path.{◌≡◌, sym, ◌∙◌, ap}
-use mathlib.Core.List.{List}
-use Rattle.panel.specs.Press.{Press, pressed_by}
-use Rattle.engine.specs.declared.Answer.{Answer}
+use Rattle.std.proofs.Common.{◌≡◌, List, ℕ, Option, Result, Ok, Err, sym, ◌∙◌, ap}
+use Rattle.bus.specs.declared.Stop.{Stop}
+use Rattle.bus.proofs.Laws.{number_only}
+use Rattle.engine.specs.Run.{Said}
 use Rattle.engine.specs.declared.Machine.{Machine}
-use Rattle.engine.proofs.Runs.{same_answer, machine_in}
+use Rattle.engine.specs.declared.Refusal.{Refusal}
+use Rattle.engine.proofs.Runs.{same_refusal, apart, machine_in}
+use Rattle.panel.specs.Press.{Press, saying, pressed_by}
+
+same_result : (r r' : Result (Option Stop) Refusal) → saying r ≡ saying r' → r ≡ r'
+same_result (Ok stop) (Ok stop') e = ap (λ (x : Option Stop). Ok x) (number_only stop stop' (ap (λ (x : Said). x.number) e))
+same_result (Ok stop) (Err refusal) e = absurd (apart stop refusal (ap (λ (x : Said). x.number) e))
+same_result (Err refusal) (Ok stop) e = absurd (apart stop refusal (sym (ap (λ (x : Said). x.number) e)))
+same_result (Err refusal) (Err refusal') e = ap (λ (x : Refusal). Err x) (same_refusal refusal refusal' e)
 
 -- No second answer.
-pub press_only : {d : Press} (answer answer' : Answer) {machine machine' : Machine} {memory memory' log log' : List ℕ}
-    → d ≡ pressed_by answer machine memory log
-    → d ≡ pressed_by answer' machine' memory' log'
-    → (answer ≡ answer') × (machine ≡ machine') × (memory ≡ memory') × (log ≡ log')
-press_only answer answer' p q =
+pub press_only : {d : Press} (r r' : Result (Option Stop) Refusal) {machine machine' : Machine} {memory memory' log log' : List ℕ}
+    → d ≡ pressed_by r machine memory log
+    → d ≡ pressed_by r' machine' memory' log'
+    → (r ≡ r') × (machine ≡ machine') × (memory ≡ memory') × (log ≡ log')
+press_only r r' p q =
     let e = sym p ∙ q in
-    (same_answer answer answer' (ap (λ (x : Press). x.said) e), ap (λ (x : Press). machine_in x.state) e, ap (λ (x : Press). x.state.memory) e, ap (λ (x : Press). x.state.log) e)
+    (same_result r r' (ap (λ (x : Press). x.said) e), ap (λ (x : Press). machine_in x.state) e, ap (λ (x : Press). x.state.memory) e, ap (λ (x : Press). x.state.log) e)

@@ -3,63 +3,47 @@
 
 ghost use Rattle.std.specs.Prelude.{◌≡◌};
 ghost use Rattle.engine.specs.Run.{state_of};
-ghost use Rattle.panel.specs.Press.{press, pressed_by};
+ghost use Rattle.panel.specs.Press.{press, pressed_by, passed_by};
 
-use engine::{Answer, Machine};
+use bus::Stop;
+use engine::{Machine, Refusal};
 
-// What a press comes to, and the machine after it.
+// A press that was not refused: the machine after it, and what stopped it.
 #[derive(Clone, Copy)]
 pub struct Pressed {
-    pub answer: Answer,
     pub machine: Machine,
+    pub stop: Option<Stop>,
 }
 
-// A press by value: the engine's run of 1.
-fn run_one(
-    machine: Machine,
-    memory: &mut [u16],
-    input: &[u16],
-    log: &mut [u16],
-    store: &[u32],
-) -> Pressed
-    ensures { press store.now input.now (state_of machine memory.old log.old) ≡ pressed_by result.answer result.machine memory.new log.new }
-{
-    let ran = engine::run(store, memory, input, log, machine, 1);
-    let answer = ran.answer;
-    let machine = ran.machine;
-    Pressed { answer, machine }
-}
-
-// Thin over the engine's run of 1: the record is copied out, and what the run leaves is stored over it.
-pub fn press(
-    machine: &mut Machine,
-    memory: &mut [u16],
-    input: &[u16],
-    log: &mut [u16],
-    store: &[u32],
-) -> Answer
-    ensures { press store.now input.now (state_of machine.old memory.old log.old) ≡ pressed_by result machine.new memory.new log.new }
-{
-    let old = *machine;
-    let out = run_one(old, memory, input, log, store);
-    *machine = out.machine;
-    out.answer
-}
-
-// The same press for programs: the record goes in and out by value, and is lent only here.
+// A press for programs, the engine's run of 1: the record goes in and out by value.
+#[tactic(auto, unfolding(crate::specs::Press::press))]
 pub fn pressed_through(
     machine: Machine,
     memory: &mut [u16],
     input: &[u16],
     log: &mut [u16],
     store: &[u32],
-) -> Pressed
-    ensures { press store.now input.now (state_of machine memory.old log.old) ≡ pressed_by result.answer result.machine memory.new log.new }
+) -> Result<Pressed, Refusal>
+    ensures { press store.now input.now (state_of machine memory.old log.old) ≡ passed_by machine result memory.new log.new }
 {
-    let mut own = machine;
-    let answer = press(&mut own, memory, input, log, store);
-    Pressed {
-        answer,
-        machine: own,
-    }
+    let ran = engine::run(store, memory, input, log, machine, 1)?;
+    Ok(Pressed {
+        machine: ran.machine,
+        stop: ran.stop,
+    })
+}
+
+// The same on a lent record: it is copied out, and what the press leaves is stored over it.
+pub fn press(
+    machine: &mut Machine,
+    memory: &mut [u16],
+    input: &[u16],
+    log: &mut [u16],
+    store: &[u32],
+) -> Result<Option<Stop>, Refusal>
+    ensures { press store.now input.now (state_of machine.old memory.old log.old) ≡ pressed_by result machine.new memory.new log.new }
+{
+    let pressed = pressed_through(*machine, memory, input, log, store)?;
+    *machine = pressed.machine;
+    Ok(pressed.stop)
 }

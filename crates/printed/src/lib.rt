@@ -14,6 +14,7 @@ const PRINTED: [u32; 64] = [
 ];
 
 // The whole control store.
+#[tactic(auto, unfolding(crate::specs::Printed::printed))]
 pub fn store() -> [u32; 64]
     ensures { result ≡ printed }
 {

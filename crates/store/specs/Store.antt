@@ -1,5 +1,6 @@
 -- The control store (01, The machine and its parts; Answer numbers, 1 and 4): 64 control words, a line each.
-use Rattle.std.specs.Prelude.{ℕ, suc, Bool, cond, not, List, [], ◌∷◌, length, get_or, set, eqb}
+use Rattle.std.specs.Prelude.{ℕ, Bool, cond, not, List, Option, Some, None, length, get_or, set, eqb, ltb}
+use Rattle.std.specs.List.{position_or_len}
 use Rattle.microword.specs.Microword.{bad_word}
 
 -- Answer 1: a control store not of 64 words.
@@ -19,10 +20,13 @@ abbrev pub with_word : List ℕ → ℕ → ℕ → List ℕ
 with_word store line word = set store line word
 
 -- How many words stand before the first bad one, all of them where none is bad.
-unfoldable pub good_before : List ℕ → ℕ
-good_before [] = 0
-good_before (w ∷ ws) = cond (bad_word w) 0 (suc (good_before ws))
+abbrev pub good_before : List ℕ → ℕ
+good_before ws = position_or_len bad_word ws
 
 -- Answer 4 names the first bad line.
 abbrev pub first_bad : List ℕ → ℕ
 first_bad store = good_before (words store)
+
+-- That line, where there is one.
+abbrev pub bad_line : List ℕ → Option ℕ
+bad_line store = cond (ltb (first_bad store) (length (words store))) (Some (first_bad store)) None

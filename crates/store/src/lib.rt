@@ -2,7 +2,7 @@
 #![tactic(auto)]
 
 ghost use Rattle.std.specs.Prelude.{◌≡◌};
-ghost use Rattle.store.specs.Store.{wrong_store, control_word, with_word, first_bad};
+ghost use Rattle.store.specs.Store.{wrong_store, control_word, with_word, bad_line};
 
 use word::Line;
 
@@ -10,11 +10,11 @@ use word::Line;
 pub fn word_at(store: &[u32], line: Line) -> u32
     ensures { result ≡ control_word store.now line.0 }
 {
-    let k = line.0 as usize;
-    if k < store.len() { store[k] } else { 0 }
+    store.get(line.0 as usize).copied().unwrap_or(0)
 }
 
 // Puts a control word at a line; past the store's end nothing is put.
+// By index: after a slice's `get_mut` a proof knows the slice's length and none of its words.
 pub fn put_word(store: &mut [u32], line: Line, word: u32)
     ensures { store.new ≡ with_word store.old line.0 word }
 {
@@ -24,18 +24,11 @@ pub fn put_word(store: &mut [u32], line: Line, word: u32)
     }
 }
 
-// How many lines stand before the first bad one.
-pub fn first_bad(store: &[u32]) -> usize
-    ensures { result ≡ first_bad store.now }
+// The first bad line.
+pub fn first_bad(store: &[u32]) -> Option<usize>
+    ensures { result ≡ bad_line store.now }
 {
-    let mut k: usize = 0;
-    while k < store.len() {
-        if microword::is_bad(store[k]) {
-            return k;
-        }
-        k += 1;
-    }
-    k
+    store.iter().position(|&word| microword::is_bad(word))
 }
 
 // 1: a control store not of 64 words.

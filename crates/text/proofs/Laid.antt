@@ -3,14 +3,13 @@ use Prim.Native.Nat.{ℕ, suc, ◌+◌, ◌≤◌, ◌<◌}
 use mathlib.Core.Path.{◌≡◌, refl, sym, ap, ap₂, subst, ◌∙◌}
 use mathlib.Core.Bool.{true, false}
 use mathlib.Core.List.{List, [], ◌∷◌, ◌++◌}
-use native.Mathlib.Numerals.{add-one}
 use native.Mathlib.Nat.{add-zero, add-suc, suc-add}
 use native.Mathlib.Omega.{arith}
 use borrow.Table.Steps.{cases}
 use borrow.Author.Tests.{lt-ltb, le-ltb, ltb-false}
 use lib.Dec.{ltb}
-use lib.ListN.{length, get_or, take, drop, set, length-append}
-use lib.Seq.{sets, sets-eq, drop-cons, take_at}
+use lib.ListN.{length, take, drop, set, length-append}
+use lib.Seq.{sets, sets-eq, take_at}
 use Rattle.text.specs.Laid.{Laid, laid, Wrote}
 
 infixl 20 ◌then◌
@@ -94,11 +93,6 @@ goes_on {text = text} {rest = rest} s w =
 
 pub all_laid : {start room : List ℕ} {from at : ℕ} {whole : List ℕ} → Still start from whole room at [] → Wrote start from whole room at
 all_laid s = record { stored = s.stored; behind = omega (arith, s.behind) }
-
--- A turn of the copying loop.
-pub put_next : (room text : List ℕ) (at i : ℕ) → i < length text
-    → sets (set room (at + i) (get_or text i 0)) (at + (i + 1)) (drop (i + 1) text) ≡ sets room (at + i) (drop i text)
-put_next room text at i h = rw (add-one, add-suc, drop-cons text i 0 h)
 
 -- No second answer: the promise fixes the room and where the text ends.
 pub only : (room : List ℕ) (at : ℕ) (text left left' : List ℕ) (r r' : ℕ) → laid room at text ≡ record { room = left; next = r }

@@ -16,19 +16,15 @@ pub fn behind_line(end: usize, last: usize) -> usize
 }
 
 // Lays `text` from `at` on and answers where it ends. Where it would pass the room's end nothing is laid.
+// The answer is a place in every case, and no Option: `laid` says for every room where what comes next may be laid.
+#[tactic(auto, unfolding(crate::specs::Laid::laid))]
 pub fn put(room: &mut [u8], at: usize, text: &[u8]) -> usize
     ensures { laid room.old at text.now ≡ record { room = room.new; next = result } }
 {
-    if room.len() < text.len() {
+    if room.len() < text.len() || room.len() - text.len() < at {
         return at;
     }
-    if room.len() - text.len() < at {
-        return at;
-    }
-    let mut i: usize = 0;
-    while i < text.len() {
-        room[at + i] = text[i];
-        i += 1;
-    }
-    at + i
+    let end = at + text.len();
+    room[at..end].copy_from_slice(text);
+    end
 }

@@ -1,6 +1,6 @@
 -- The way back for the two functions: the lister's answer 0 puts the listing at the room's start, and `listing_back`
 -- reads it; the normal forms have the same lines, since a line never shows a field without use.
-use Prim.Native.Nat.{ℕ, suc, ◌≤◌}
+use Prim.Native.Nat.{ℕ, suc, ◌+◌, ◌≤◌}
 use mathlib.Core.Path.{◌≡◌, refl, sym, ◌∙◌}
 use mathlib.Core.Bool.{Bool, true, false, cond, not, ◌&&◌}
 use mathlib.Core.List.{List, [], ◌∷◌, map}
@@ -47,16 +47,14 @@ same_listing ws = rw (same_shown ws) (same_lines 0 (shown ws))
 
 -- No bad line is the same as every word good, and normal forms of good words are good.
 all_good : (ws : List ℕ) → length ws ≤ good_before ws → AllGood ws
-unfolding good_before
 all_good [] h = tt
 all_good (w ∷ ws) h = by (bad_word w) refl h (all_good ws)
   where
-    by : (bad : Bool) → bad_word w ≡ bad → suc (length ws) ≤ cond bad 0 (suc (good_before ws)) → (length ws ≤ good_before ws → AllGood ws) → (bad_word w ≡ false) × AllGood ws
+    by : (bad : Bool) → bad_word w ≡ bad → suc (length ws) ≤ cond (not bad) (1 + good_before ws) 0 → (length ws ≤ good_before ws → AllGood ws) → (bad_word w ≡ false) × AllGood ws
     by true e h rest = let z : ⊥ = omega arith in absurd z
     by false e h rest = (e, rest (omega arith))
 
 no_bad : (ws : List ℕ) → AllGood ws → length ws ≤ good_before ws
-unfolding good_before
 no_bad [] a = omega arith
 no_bad (w ∷ ws) a = rw a.0 (omega (arith, no_bad ws a.1))
 

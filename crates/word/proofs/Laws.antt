@@ -124,7 +124,7 @@ restored width a b =
 pub bytes_back : (word : ℕ) → word < 65536 → word_of (bytes_of word) ≡ word
 bytes_back word h = omega arith
 
-pub word_back : (high low : ℕ) → high < 256 → low < 256 → bytes_of (word_of (record { 0 = high; 1 = low })) ≡ record { 0 = high; 1 = low }
+pub word_back : (high low : ℕ) → high < 256 → low < 256 → bytes_of (word_of (high ∷ low ∷ [])) ≡ high ∷ low ∷ []
 word_back high low h l =
     let a : (high * 256 + low) / 256 % 256 ≡ high = omega arith in
     let b : (high * 256 + low) / 1 % 256 ≡ low = omega arith in

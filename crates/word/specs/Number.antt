@@ -1,6 +1,5 @@
 -- What a number's bits are: fields, what few bits keep, sums, and a word's two bytes (01, Registers and microwords).
-use Rattle.std.specs.Prelude.{ℕ, ◌+◌, ◌-◌, ◌*◌, ◌/◌, ◌%◌, ◌^◌, List, [], ◌∷◌}
-use Rattle.word.specs.declared.Pair.{Pair}
+use Rattle.std.specs.Prelude.{ℕ, ◌+◌, ◌-◌, ◌*◌, ◌/◌, ◌%◌, ◌^◌, List, [], ◌∷◌, slice_index}
 
 -- A number's low `width` bits.
 abbrev pub kept : ℕ → ℕ → ℕ
@@ -42,8 +41,8 @@ abbrev pub difference : ℕ → ℕ → ℕ → ℕ
 difference width a b = kept width (a + (2 ^ width - kept width b))
 
 -- A word is two bytes, high byte first.
-abbrev pub bytes_of : ℕ → Pair
-bytes_of word = record { 0 = field 8 8 word; 1 = field 0 8 word }
+abbrev pub bytes_of : ℕ → List ℕ
+bytes_of word = field 8 8 word ∷ field 0 8 word ∷ []
 
-abbrev pub word_of : Pair → ℕ
-word_of pair = pair.0 * 256 + pair.1
+abbrev pub word_of : List ℕ → ℕ
+word_of bytes = slice_index bytes 0 * 256 + slice_index bytes 1

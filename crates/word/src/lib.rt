@@ -5,16 +5,12 @@ ghost use Rattle.std.specs.Prelude.{◌≡◌};
 ghost use Rattle.word.specs.Number.{field, placed, kept, sum, difference, bytes_of, word_of};
 
 // A line of the control store.
-#[derive(Clone, Copy)]
+#[derive(Clone, Copy, Debug, PartialEq, Eq, PartialOrd, Ord)]
 pub struct Line(pub u8);
 
 // Where a word lies in main memory.
-#[derive(Clone, Copy)]
+#[derive(Clone, Copy, Debug, PartialEq, Eq, PartialOrd, Ord)]
 pub struct Address(pub u16);
-
-// A word as two bytes, high byte first.
-#[derive(Clone, Copy)]
-pub struct Pair(pub u8, pub u8);
 
 // The low `width` bits of a number.
 pub fn low_bits(number: u32, width: u32) -> u32
@@ -46,35 +42,30 @@ pub fn put_below(high: u32, width: u32, value: u32) -> u32
     (high << width) | low_bits(value, width)
 }
 
-// The low `width` bits of a word.
-pub fn keep(word: u16, width: u32) -> u16
-    ensures { result ≡ kept width word }
-{
-    low_bits(word as u32, width) as u16
-}
-
 pub fn add(a: u16, b: u16) -> u16
     ensures { result ≡ sum 16 a b }
 {
-    std::num::wrapping_add_u16(a, b)
+    a.wrapping_add(b)
 }
 
 pub fn subtract(a: u16, b: u16) -> u16
     ensures { result ≡ difference 16 a b }
 {
-    std::num::wrapping_sub_u16(a, b)
+    a.wrapping_sub(b)
 }
 
-pub fn to_bytes(word: u16) -> Pair
+// A word as two bytes, high byte first.
+pub fn to_bytes(word: u16) -> [u8; 2]
     ensures { result ≡ bytes_of word }
 {
-    Pair((word >> 8) as u8, keep(word, 8) as u8)
+    word.to_be_bytes()
 }
 
-pub fn from_bytes(high: u8, low: u8) -> u16
-    ensures { result ≡ word_of (record { 0 = high; 1 = low }) }
+// The word that two bytes are, high byte first.
+pub fn from_bytes(bytes: [u8; 2]) -> u16
+    ensures { result ≡ word_of bytes }
 {
-    put_below(high as u32, 8, low as u32) as u16
+    u16::from_be_bytes(bytes)
 }
 
 impl Line {
@@ -89,7 +80,7 @@ impl Line {
     pub fn next(self) -> Self
         ensures { result ≡ record { 0 = sum 6 self.0 1 } }
     {
-        Line::of(self.0 as u32 + 1)
+        Line::of(u32::from(self.0) + 1)
     }
 }
 
@@ -98,7 +89,7 @@ impl Address {
     pub fn of(word: u16) -> Self
         ensures { result ≡ record { 0 = kept 12 word } }
     {
-        Address(keep(word, 12))
+        Address(low_bits(u32::from(word), 12) as u16)
     }
 
     pub fn plus(self, other: Address) -> Self

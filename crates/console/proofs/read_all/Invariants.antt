@@ -1,11 +1,9 @@
--- `read_all`: what was read so far lies within the buffer, whose length stays, and each piece is at least a byte.
-use Prim.Native.Nat.{◌-◌, ◌≤◌}
-use mathlib.Core.Path.{◌≡◌}
-use lib.ListN.{length}
+-- `read_all`: what was read so far lies within the buffer, and each piece is at least a byte.
+use Rattle.std.proofs.Common.{length, ◌-◌, ◌≤◌}
 use Rattle.console.proofs.read_all.Given as goal
 
 abbrev pub invariant-loop-done : goal.invariant-loop-done
-invariant-loop-done g l = (length l.buffer ≡ length l.initial.buffer) × (l.done ≤ length l.buffer)
+invariant-loop-done g l = l.done ≤ length l.buffer
 
 abbrev pub decreases-loop-done : goal.decreases-loop-done
 decreases-loop-done g l = length l.buffer - l.done

@@ -1,13 +1,18 @@
--- `refusal` puts the line's field, then byte 10; a room under 512 bytes is left as found.
-use native.Mathlib.Omega.{arith}
+-- `refusal` puts the answer, the line where there is one, then byte 10; a room under 512 bytes is left as found.
+use Rattle.std.proofs.Common.{arith}
+use Rattle.text.proofs.Laid.{◌then◌}
 use Rattle.console.specs.Text.{refusal}
-use Rattle.console.proofs.Laws.{ended, shown_put, not_shown}
+use Rattle.console.proofs.Laws.{ended, shown_put}
 use Rattle.console.proofs.refusal.Goals as goal
-
-pub returns-then-room-lt-ROOM : goal.returns-then-room-lt-ROOM
-returns-then-room-lt-ROOM c = not_shown _ _ (omega arith)
+use Rattle.console.proofs.refusal.Goals.{in-None, in-Some}
 
 pub returns : goal.returns
 unfolding refusal
-returns c = let w = c.put_labelled-end in
-    shown_put (ended w.ensures.wrote) c.if-room-lt-ROOM.false (omega arith)
+returns c =
+    let answer = c.put_labelled-at.ensures in
+    elim c.match-line.branch [
+      | in-None w ↦ rw (w.in-None.is, w.room-is, w.end-is) (shown_put (ended answer.wrote) c.if-room-lt-ROOM.false (omega (arith, answer.upper_bound)))
+      | in-Some w ↦
+          let line = w.put_labelled-end.ensures in
+          rw (w.in-Some.is, w.room-is, w.end-is) (shown_put (ended (answer.wrote then line.wrote)) c.if-room-lt-ROOM.false (omega (arith, answer.upper_bound, line.upper_bound)))
+    ]

@@ -1,33 +1,34 @@
 -- Mirrors the code: the machine taken apart, what a cycle finds and what it leaves each in a variable of its own.
-use Rattle.std.specs.Prelude.{List, ℕ, cond, get_or, eqb}
+use Rattle.std.specs.Prelude.{List, ℕ, Result, cond, get_or, eqb}
 use Rattle.turns.specs.Turns.{Turn}
-use Rattle.bus.specs.Stops.{number}
-use Rattle.datapath.specs.declared.Half.{Half}
+use Rattle.bus.specs.declared.Stop.{Stop}
+use Rattle.bus.specs.Stops.{stopped}
+use Rattle.bus.specs.Code.Gives.{gives}
 use Rattle.microword.specs.declared.Fields.{Fields}
 use Rattle.microword.specs.Microword.{fields_of}
-use Rattle.word.specs.declared.Line.{Line}
 use Rattle.cycle.specs.Cycle.{State, result, stored, next_line}
 use Rattle.cycle.specs.declared.Begun.{Begun}
-use Rattle.cycle.specs.declared.Stepped.{Stepped}
+use Rattle.cycle.specs.declared.Standing.{Standing}
 
-abbrev pub standing : Line → Half → ℕ → ℕ → List ℕ → List ℕ → List ℕ → State
-standing line half place count registers memory log =
+abbrev pub standing : Standing → List ℕ → List ℕ → List ℕ → State
+standing at registers memory log =
     record {
-      line = line.0;
+      line = at.line.0;
       registers = registers;
-      half = half;
-      place = place;
-      count = count;
+      half = at.half;
+      place = at.place;
+      count = at.count;
       memory = memory;
       log = log;
     }
 
-abbrev pub stepped : Stepped → List ℕ → List ℕ → List ℕ → Turn State
-stepped r registers memory log =
+-- A refused cycle leaves what stood before it, and is worth nothing.
+abbrev pub stepped : Standing → Result Standing Stop → List ℕ → List ℕ → List ℕ → Turn State
+stepped before result registers memory log =
     record {
-      next = standing r.line r.half r.place r.count registers memory log;
-      stop = number r.stop;
-      cost = cond (eqb (number r.stop) 0) 1 0;
+      next = standing (gives before result) registers memory log;
+      stop = stopped result;
+      cost = cond (eqb (stopped result) 0) 1 0;
     }
 
 -- A cycle once it has stored: the fields of its word, the line that follows, what stood in S, and the registers.

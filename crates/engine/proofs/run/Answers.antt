@@ -1,11 +1,13 @@
--- `run`: an answer 0 of the check lets the cycles run; any other is handed on with everything as found.
-use mathlib.Core.Path.{sym, ◌∙◌}
+-- `run`: where the check refuses nothing the cycles run; what it refuses is handed on with everything as found.
+use Rattle.std.proofs.lemmas.Result.{err_from_is_err_and}
+use Rattle.std.proofs.Common.{rules}
 use Rattle.engine.proofs.Laws.{lets_run, refuses}
 use Rattle.engine.proofs.run.Goals as goal
 
-pub returns-then-number-eq0 : goal.returns-then-number-eq0
-returns-then-number-eq0 c =
-    lets_run c.check-answer.result _ _ _ _ c.check-answer.ensures (sym c.number.ensures ∙ c.if-number-eq0.true) c.repeat.ensures
+pub returns-in_err-check : goal.returns-in_err-check
+returns-in_err-check c =
+    let p = err_from_is_err_and c.from_residual.result c.from_residual.ensures.1 in
+    rw (p.1, p.2) (refuses _ _ _ _ _ (rw c.in_err-check.was at c.check.ensures))
 
-pub returns-else-number-eq0 : goal.returns-else-number-eq0
-returns-else-number-eq0 c = refuses c.check-answer.result _ _ _ _ c.check-answer.ensures (λ z. c.if-number-eq0.false (c.number.ensures ∙ z))
+pub returns : goal.returns
+returns c = lets_run _ _ _ _ (rw c.in_ok-check.was at c.check.ensures) (search rules)

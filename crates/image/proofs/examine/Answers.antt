@@ -1,95 +1,40 @@
--- `examine`: the record that was read last and those after it have by themselves the answer that all have.
-use Prim.Native.Nat.{ℕ, ◌+◌, ◌-◌}
-use mathlib.Core.List.{List, ◌∷◌}
-use mathlib.Core.Path.{◌≡◌, sym, ◌∙◌, ap}
-use native.Mathlib.Omega.{arith}
-use lib.ListN.{drop_of_length-le}
-use borrow.Author.Tests.{eq-eqb, ne_eqb, eqb-true}
-use Rattle.image.specs.Image.{examined}
+-- `examine`: the record that was read last and those to come have by themselves the fault that all have.
+use Rattle.std.proofs.Common.{List, ◌∷◌, sym, ap, ◌∙◌, arith}
+use Rattle.std.proofs.lemmas.Result.{err_from_is_err_and}
 use Rattle.image.specs.declared.Record.{Record}
-use Rattle.image.specs.Records.{records, fault, first_fault}
-use Rattle.image.proofs.Records.{stopped}
-use Rattle.image.proofs.Numbers.{numbered, one_judged, followed, not_followed}
+use Rattle.image.specs.Records.{first_fault}
+use Rattle.image.proofs.Records.{record_next, records_end, stopped}
+use Rattle.image.proofs.Following.{one_judged, followed, not_followed}
+use Rattle.image.proofs.Refusals.{no_zero}
 use Rattle.image.proofs.examine.Goals as goal
 
--- The record that is read anew is the last one.
-same : {l behind : List Record} {read last : Record} → l ≡ read ∷ behind → l ≡ last ∷ behind → read ≡ last
-same read held = cc
+pub returns-in_default : goal.returns-in_default
+unfolding first_fault
+returns-in_default c = rw (records_end c.args.records.now 0 (omega (arith, c.in_default.ensures.cases)))
 
-pub returns-then-image-ne0 : goal.returns-then-image-ne0
-unfolding examined
-returns-then-image-ne0 c = rw (ne_eqb _ _ c.if-image-ne0.true)
+pub returns-in_err-judge : goal.returns-in_err-judge
+returns-in_err-judge c =
+    let here = c.loop-four in
+    let out = err_from_is_err_and c.from_residual.result c.from_residual.ensures.1 in
+    rw (out.1, out.2) (sym (stopped 0 here.last _ c.in_err-judge.ensures (no_zero _)) ∙ here.invariant)
 
-pub returns-then-image-eq0 : goal.returns-then-image-eq0
-unfolding examined first_fault records
-returns-then-image-eq0 c =
-    let none = drop_of_length-le c.args.image.now {i = 0} (omega arith) in
-    rw (eq-eqb _ _ c.if-image-ne0.false) (ap (λ (l : List ℕ). first_fault 0 (records l)) (sym none))
+pub returns-then-not-goes_before : goal.returns-then-not-goes_before
+returns-then-not-goes_before c =
+    let here = c.loop-four in
+    let next = record_next _ here.four-index c.loop-four-test.true c.from-next.ensures in
+    sym (not_followed here.last c.from-next.result _ (sym c.goes_before.ensures ∙ c.if-not-goes_before.true) (sym c.in_ok-judge.ensures))
+    ∙ sym (ap (λ (rs : List Record). first_fault 0 (here.last ∷ rs)) next)
+    ∙ here.invariant
 
-pub number_at-last-requires : goal.number_at-last-requires
-number_at-last-requires c = omega arith
-
-pub loop-at-init : goal.loop-at-init
-unfolding examined
-loop-at-init c =
-    record {
-      past = omega arith;
-      inside = omega arith;
-      whole = omega arith;
-      held = c.number_at-last.ensures;
-      rest = rw (eq-eqb _ _ c.if-image-ne0.false) (ap (first_fault 0) (sym c.number_at-last.ensures));
-    }
-
-pub number_at-next-requires : goal.number_at-next-requires
-number_at-next-requires c = omega arith
-
-pub overflow_add-at : goal.overflow_add-at
-overflow_add-at c = omega arith
-
-pub loop-at-smaller : goal.loop-at-smaller
-loop-at-smaller c = omega arith
-
-pub loop-at-preserved : goal.loop-at-preserved
-loop-at-preserved c =
-    let here = c.loop-at in
-    let next = c.number_at-next in
-    let back : here.at + 4 - 4 ≡ here.at = omega arith in
-    record {
-      past = omega arith;
-      inside = omega arith;
-      whole = omega arith;
-      held = rw back next.ensures;
-      rest =
-          followed (numbered here.last) (numbered next.result) _ (sym c.follows.ensures ∙ c.if-follows.true)
-          ∙ ap (λ (rs : List Record). first_fault 0 (numbered here.last ∷ rs)) (sym next.ensures)
-          ∙ here.invariant.rest;
-    }
-
-pub overflow_sub-at : goal.overflow_sub-at
-overflow_sub-at c = omega arith
-
-pub number_at-requires : goal.number_at-requires
-number_at-requires c = omega arith
-
-pub returns-then-is_done : goal.returns-then-is_done
-returns-then-is_done c =
-    let here = c.loop-at in
-    let back : here.at - 4 + 4 ≡ here.at = omega arith in
-    let next = c.number_at-next in
-    let fine = ap (fault 0) (sym (same (rw back at c.number_at.ensures) here.invariant.held)) ∙ sym c.judge-fault.ensures ∙ eqb-true _ 0 (sym c.is_done.ensures ∙ c.if-is_done.true) in
-    sym (not_followed (numbered here.last) (numbered next.result) _ (sym c.follows.ensures ∙ c.if-follows.false) fine)
-    ∙ ap (λ (rs : List Record). first_fault 0 (numbered here.last ∷ rs)) (sym next.ensures)
-    ∙ here.invariant.rest
-
-pub returns-else-follows : goal.returns-else-follows
-returns-else-follows c =
-    let here = c.loop-at in
-    let back : here.at - 4 + 4 ≡ here.at = omega arith in
-    sym (stopped 0 (numbered here.last) _ (c.judge-fault.ensures ∙ ap (fault 0) (same (rw back at c.number_at.ensures) here.invariant.held)) (sym c.is_done.ensures ∙ c.if-is_done.false))
-    ∙ here.invariant.rest
+pub loop-four-preserved : goal.loop-four-preserved
+loop-four-preserved c =
+    let here = c.loop-four in
+    let next = record_next _ here.four-index c.loop-four-test.true c.from-next.ensures in
+    followed here.last c.from-next.result _ (sym c.goes_before.ensures ∙ c.if-not-goes_before.false)
+    ∙ sym (ap (λ (rs : List Record). first_fault 0 (here.last ∷ rs)) next)
+    ∙ here.invariant
 
 pub returns : goal.returns
-unfolding records
 returns c =
-    let here = c.loop-at in
-    rw (← here.invariant.rest, drop_of_length-le _ c.loop-at-test.false) (c.judge.ensures ∙ sym (one_judged (numbered here.last)))
+    let here = c.loop-four in
+    c.judge-2.ensures ∙ sym (one_judged here.last) ∙ rw (records_end c.in-Some.rest.now here.four-index (omega arith)) at here.invariant

@@ -1,22 +1,13 @@
--- `lay`: laying the records from `at` on over memory gives the memory of the whole image.
-use Prim.Native.Nat.{ℕ, ◌-◌, ◌%◌, ◌≤◌}
-use mathlib.Core.List.{List}
-use mathlib.Core.Path.{◌≡◌}
-use lib.ListN.{length, drop}
-use Rattle.image.specs.Records.{records, first_fault, laid}
-use Rattle.image.specs.Image.{memory_of}
+-- `lay`: the records to come have no fault, and laid over memory they give the memory of all.
+use Rattle.std.proofs.Common.{◌≡◌, ℕ, List, length, map, drop, replicate}
+use Rattle.image.specs.Records.{first_fault, record_in, laid}
 use Rattle.image.proofs.lay.Given as goal
 
-pub record Laying (image memory : List ℕ) (at : ℕ) : Type 0 where
-  pub inside : at ≤ length image
-  pub whole : (length image - at) % 4 ≡ 0
-  pub words : length memory ≡ 4096
+pub record Laying (fours : List (List ℕ)) (memory : List ℕ) (i : ℕ) : Type 0 where
   pub least : ℕ
-  pub faultless : first_fault least (records (drop at image)) ≡ 0
-  pub rest : laid (records (drop at image)) memory ≡ memory_of image
+  pub faultless : first_fault least (map record_in (drop i fours)) ≡ 0
+  pub words : length memory ≡ 4096
+  pub rest : laid (map record_in (drop i fours)) memory ≡ laid (map record_in fours) (replicate 4096 0)
 
-abbrev pub invariant-loop-at : goal.invariant-loop-at
-invariant-loop-at l = Laying l.image l.memory l.at
-
-abbrev pub decreases-loop-at : goal.decreases-loop-at
-decreases-loop-at l = length l.image - l.at
+abbrev pub invariant-loop-four : goal.invariant-loop-four
+invariant-loop-four l = Laying l.records l.memory l.four-index

@@ -1,47 +1,45 @@
 -- Mirrors the code: its short way through instructions below the ports, where registers and memory are all that changes.
-use Rattle.std.specs.Prelude.{ℕ, ◌-◌, ◌*◌, ◌≤◌, ◌≡◌, true, false, List, length}
-use Rattle.turns.specs.Turns.{Turn, plus}
+use Rattle.std.specs.Prelude.{ℕ, ◌-◌, ◌*◌, ◌≤◌, ◌≡◌, List, get_or, cond, ltb, Option, Some, None}
+use Rattle.turns.specs.Turns.{Turn, Turned, plus}
 use Rattle.bus.specs.Stops.{goes_on}
-use Rattle.word.specs.Number.{kept}
-use Rattle.instruction.specs.Instruction.{State, at, below, above, sets, stores, state_of}
+use Rattle.word.specs.Number.{sum}
+use Rattle.instruction.specs.Instruction.{State, state_in, state_of}
+use Rattle.instruction.specs.declared.Core.{Core}
 use Rattle.interpreter.specs.Run.{instructions}
-use Rattle.interpreter.specs.declared.Registers.{Registers}
 use Rattle.interpreter.specs.declared.Passed.{Passed}
 use Rattle.interpreter.specs.declared.Stage.{Stage}
-use Rattle.instruction.specs.declared.Cpu.{Cpu}
 
--- What stands still where no port is met.
-pub record Beside : Type 0 where
-  pub place : ℕ
-  pub count : ℕ
-  pub log : List ℕ
+-- Memory's word at an address below the ports.
+abbrev pub held_below : List ℕ → ℕ → Option ℕ
+held_below memory address = cond (ltb address 4092) (Some (get_or memory address 0)) None
 
-abbrev pub state_with : Registers → List ℕ → Beside → State
-state_with r memory b = record { cp = r.cp.0; pp = r.pp.0; ac = r.ac; place = b.place; count = b.count; memory = memory; log = b.log }
+-- What is popped there, and the registers with PP one higher.
+abbrev pub popped : List ℕ → Core → Option (ℕ × Core)
+popped memory own = cond (ltb own.pp.0 4092) (Some (get_or memory own.pp.0 0, record own { pp = record { 0 = sum 12 own.pp.0 1 } })) None
 
--- An instruction is done, whatever the input and what stands beside; or it met a port and memory is as it was.
-pub record Plain (acts : List ℕ → Beside → Turn State) (memory : List ℕ) (p : Passed) (left : List ℕ) : Type 0 where
-  pub done : p.met ≡ false → (input : List ℕ) (b : Beside)
-      → acts input b ≡ record { next = state_with p.registers left b; stop = goes_on; cost = p.cycles }
-  pub undone : p.met ≡ true → left ≡ memory
+-- What an action comes to where it is done; of one that met a port nothing is said.
+abbrev pub passed : Option Passed → Turn State → ℕ → List ℕ → List ℕ → Turn State
+passed (Some p) acts count memory log = record { next = state_in p.core count memory log; stop = goes_on; cost = p.cycles }
+passed None acts count memory log = acts
 
--- The table's lines that push a word, that copy one, and RETN and POP.
-abbrev pub pushes : State → ℕ → ℕ → Turn State
-pushes s cp word = stores 10 s cp (below s) s.place (below s) word
+-- An action is done, whatever the input, the log and its count; or it met a port.
+abbrev pub Done : (List ℕ → State → Turn State) → Core → List ℕ → Option Passed → List ℕ → Type 0
+Done acts own memory r later =
+    (input : List ℕ) (count : ℕ) (log : List ℕ)
+    → acts input (state_in own count memory log) ≡ passed r (acts input (state_in own count memory log)) count later log
 
-abbrev pub copies : List ℕ → State → ℕ → ℕ → ℕ → Turn State
-copies input s pp from to = stores 11 s s.cp pp (at input s from).place to (at input s from).word
+-- The same of one that may write: where it met a port memory is as it was.
+pub record Plain (acts : List ℕ → State → Turn State) (own : Core) (memory : List ℕ) (r : Option Passed) (later : List ℕ) : Type 0 where
+  pub done : Done acts own memory r later
+  pub undone : r ≡ None → later ≡ memory
 
-abbrev pub returns : List ℕ → State → Turn State
-returns input s = sets 9 s (kept 12 (at input s s.pp).word) (above s) s.ac (at input s s.pp).place
+-- What a run of n instructions comes to from a stage of it on.
+abbrev pub rest : ℕ → Stage → List ℕ → ℕ → List ℕ → List ℕ → Turned State
+rest n stage input count memory log = plus stage.done stage.cycles (instructions input (n - stage.done) (state_in stage.core count memory log))
 
-abbrev pub pops : List ℕ → State → Turn State
-pops input s = sets 10 s s.cp (above s) (at input s s.pp).word (at input s s.pp).place
-
--- Of n instructions some are done, the log untouched; the run comes to what is left of it, after these.
-pub record Onward (n : ℕ) (cpu : Cpu) (memory : List ℕ) (part : Stage) (later : List ℕ) : Type 0 where
-  pub within : part.left ≤ n
-  pub spent : part.cycles ≤ 11 * (n - part.left)
-  pub words : length later ≡ length memory
-  pub same : (input log : List ℕ)
-      → instructions input n (state_of cpu memory log) ≡ plus (n - part.left) part.cycles (instructions input part.left (state_of part.cpu later log))
+-- From one stage of n instructions to a later one, the log untouched: the run comes to the same from either on.
+pub record Onward (n : ℕ) (from : Stage) (memory : List ℕ) (to : Stage) (later : List ℕ) : Type 0 where
+  pub onward : from.done ≤ to.done
+  pub within : to.done ≤ n
+  pub spent : to.cycles ≤ 11 * to.done
+  pub same : (input : List ℕ) (count : ℕ) (log : List ℕ) → rest n from input count memory log ≡ rest n to input count later log

@@ -1,7 +1,0 @@
--- `put` past the end changes nothing, as `set` does.
-use lib.Seq.{set_out}
-use mathlib.Core.Path.{sym}
-use Rattle.bus.proofs.put.Goals as goal
-
-pub returns-else-at-words : goal.returns-else-at-words
-returns-else-at-words c = sym (set_out _ _ _ c.if-at-words.false)

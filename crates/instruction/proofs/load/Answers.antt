@@ -1,7 +1,0 @@
--- `load` reads, then sets AC.
-use Rattle.instruction.specs.Instruction.{gains, sets}
-use Rattle.instruction.proofs.load.Goals as goal
-
-pub returns : goal.returns
-unfolding gains sets
-returns c = λ count log e. rw e (rw c.word_at-got.ensures at (c.set.ensures count c.args.memory.now log))
