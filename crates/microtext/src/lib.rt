@@ -15,7 +15,7 @@ use token::Token;
 use word::Line;
 
 // What the parts of a line have given: a target above 63, a kind twice, an operation, and the fields.
-#[derive(Clone, Copy)]
+#[derive(Clone, Copy, Debug, PartialEq, Eq)]
 pub struct Given {
     pub far: bool,
     pub twice: bool,
@@ -24,7 +24,7 @@ pub struct Given {
 }
 
 // The parts of a line so far, and how far the next one has been read.
-#[derive(Clone, Copy)]
+#[derive(Clone, Copy, Debug, PartialEq, Eq)]
 pub struct Parts {
     pub given: Given,
     pub stage: Stage,
