@@ -54,7 +54,7 @@ struct Record {
     value: u16,
 }
 
-// High byte first.
+// High byte first. The four are one number, which the machine loads at once.
 impl From<[u8; 4]> for Record {
     ghost from_gives = { λ four r. r ≡ record_in four };
 
