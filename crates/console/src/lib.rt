@@ -53,6 +53,7 @@ impl fmt::Display for Reason {
 }
 
 // An input up to its end, or as much of it as the buffer holds: how many bytes stand at the buffer's front. A read that fails is not the end.
+// No range: what is counted is the bytes that each read gives.
 fn read_all(reader: &mut impl Read, buffer: &mut [u8]) -> std::io::Result<usize>
     ensures counted { IfOk result (λ n. IsPrefixLen n buffer.new) }
     ensures kept { length buffer.new ≡ length buffer.old }

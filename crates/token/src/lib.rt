@@ -139,7 +139,7 @@ fn token_len(rest: &[u8]) -> usize
     1
 }
 
-// The next token of the line that goes on at `at`.
+// The next token of the line that goes on at `at`. Text and place stay two parameters: `scanned` says places in the whole text.
 pub fn next_token(text: &[u8], at: usize) -> Scanned
     ensures { result ≡ scanned text.now at }
 {
