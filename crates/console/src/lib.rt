@@ -1,7 +1,7 @@
 // What the two programs share: standard input read to its end, the texts that they print as bytes in a lent room, and standard output.
 #![tactic(auto)]
 
-ghost use Rattle.std.specs.Prelude.{◌≡◌, ◌++◌, ◌+◌, ◌*◌, length, IfOk, IfSome};
+ghost use Rattle.std.specs.Prelude.{◌≡◌, ◌++◌, ◌+◌, ◌*◌, length, MatchResult};
 ghost use Rattle.text.specs.Decimal.{decimal};
 ghost use Rattle.console.specs.Text.{signed, counts, registers, line, lines, refusal as text_refusal, report as text_report};
 ghost use Rattle.console.specs.Code.Shown.{shown};
@@ -52,15 +52,24 @@ impl fmt::Display for Reason {
     }
 }
 
-// An input up to its end, or as much of it as the buffer holds: how many bytes stand at the buffer's front. A read that fails is not the end.
+// A read that failed, and the bytes that were read before it.
+#[derive(Clone, Copy)]
+struct Failed {
+    error: Error,
+    count: usize,
+}
+
+// An input up to its end, or as much of it as the buffer holds: how many bytes stand at the buffer's front, of a read that fails too.
 // No range: what is counted is the bytes that each read gives.
-fn read_all(reader: &mut impl Read, buffer: &mut [u8]) -> std::io::Result<usize>
-    ensures counted { IfOk result (λ n. IsPrefixLen n buffer.new) }
+fn read_all(reader: &mut impl Read, buffer: &mut [u8]) -> Result<usize, Failed>
+    ensures counted { MatchResult result (λ n. IsPrefixLen n buffer.new) (λ failed. IsPrefixLen failed.count buffer.new) }
     ensures kept { length buffer.new ≡ length buffer.old }
 {
     let mut done: usize = 0;
     while done < buffer.len() {
-        let count = reader.read(&mut buffer[done..])?;
+        let count = reader
+            .read(&mut buffer[done..])
+            .map_err(|error| Failed { error, count: done })?;
         if count == 0 {
             break;
         }
@@ -112,19 +121,16 @@ fn say_failed(rt: &HostRuntime, program: &[u8], stream: &[u8], error: Error) {
     let _ = writeln!(out, ": {reason}");
 }
 
-// A program's input: `read_all` of standard input. Of a read that failed, which is said, nothing is given.
-pub fn read_input(rt: &HostRuntime, program: &[u8], buffer: &mut [u8]) -> Option<usize>
-    ensures counted { IfSome result (λ n. IsPrefixLen n buffer.new) }
+// A program's input: `read_all` of standard input. A read that failed is said, and the bytes read before it are given.
+pub fn read_input(rt: &HostRuntime, program: &[u8], buffer: &mut [u8]) -> Result<usize, usize>
+    ensures counted { MatchResult result (λ n. IsPrefixLen n buffer.new) (λ n. IsPrefixLen n buffer.new) }
     ensures kept { length buffer.new ≡ length buffer.old }
 {
     let mut reader = rt.stdin();
-    match read_all(&mut reader, buffer) {
-        Ok(length) => Some(length),
-        Err(error) => {
-            say_failed(rt, program, b": standard input", error);
-            None
-        }
-    }
+    read_all(&mut reader, buffer).map_err(|failed| {
+        say_failed(rt, program, b": standard input", failed.error);
+        failed.count
+    })
 }
 
 // A program's output: `write_out`, with a failure said. Gives the status that the program ends with.

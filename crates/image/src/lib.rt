@@ -18,7 +18,7 @@ const WORDS: usize = 4096;
 const RECORDED: u16 = 4092;
 
 // The bytes of the longest image.
-const LONGEST: usize = 16368;
+pub const LONGEST: usize = 16368;
 
 // Why the reader or the writer refused.
 #[derive(Clone, Copy, Debug, PartialEq, Eq)]
@@ -150,17 +150,15 @@ pub fn read(image: &[u8], memory: &mut [u16]) -> Result<(), Refusal>
 }
 
 // Puts a word's record into the room, and none for a word that is 0. Gives where it ends.
-#[tactic(auto, using(text::proofs::Laid::nothing, crate::proofs::Putting::record_put), unfolding(crate::specs::Records::bytes))]
-fn put(room: &mut [u8], at: usize, address: u16, value: u16) -> usize
+#[tactic(auto, using(text::proofs::Laid::nothing), unfolding(crate::specs::Records::bytes))]
+fn put(room: &mut [u8], at: usize, address: Address, value: u16) -> usize
     requires { at + 4 ≤ length room.old }
-    ensures { Wrote room.old at (bytes (record_of address value)) room.new result }
+    ensures { Wrote room.old at (bytes (record_of address.0 value)) room.new result }
 {
     if value == 0 {
         return at;
     }
-    let address = Address(address);
-    room[at..at + 4].copy_from_slice(&<[u8; 4]>::from(Record { address, value }));
-    at + 4
+    text::put(room, at, &<[u8; 4]>::from(Record { address, value }))
 }
 
 // Puts the records of words that follow each other, the first at address 0, into the room. Gives their length.
@@ -170,7 +168,7 @@ fn put_all(words: &[u16], room: &mut [u8]) -> usize
 {
     let mut at: usize = 0;
     for (address, &word) in words.iter().enumerate() {
-        at = put(room, at, address as u16, word);
+        at = put(room, at, Address(address as u16), word);
     }
     at
 }

@@ -57,7 +57,7 @@ fn text(input: &[u8], room: &mut [u8]) -> usize
 // A read that fails prints nothing.
 fn main(rt: HostRuntime) -> ExitCode {
     let mut input = [0u8; 257];
-    let Some(n) = console::read_input(&rt, b"list", &mut input) else {
+    let Ok(n) = console::read_input(&rt, b"list", &mut input) else {
         return ExitCode::FAILURE;
     };
     let mut room = [0u8; 2816];

@@ -113,7 +113,7 @@ fn text(input: &[u8], room: &mut [u8]) -> usize
 // A read that fails runs nothing.
 fn main(rt: HostRuntime) -> ExitCode {
     let mut input = [0u8; 16369];
-    let Some(n) = console::read_input(&rt, b"run", &mut input) else {
+    let Ok(n) = console::read_input(&rt, b"run", &mut input) else {
         return ExitCode::FAILURE;
     };
     let mut room = [0u8; 512];
