@@ -10,7 +10,7 @@ use word::Line;
 pub fn word_at(store: &[u32], line: Line) -> u32
     ensures { result ≡ control_word store.now line.0 }
 {
-    store.get(line.0 as usize).copied().unwrap_or(0)
+    store.get(usize::from(line)).copied().unwrap_or(0)
 }
 
 // Puts a control word at a line; past the store's end nothing is put.
@@ -18,7 +18,7 @@ pub fn word_at(store: &[u32], line: Line) -> u32
 pub fn put_word(store: &mut [u32], line: Line, word: u32)
     ensures { store.new ≡ with_word store.old line.0 word }
 {
-    let k = line.0 as usize;
+    let k = usize::from(line);
     if k < store.len() {
         store[k] = word;
     }

@@ -84,6 +84,15 @@ impl Line {
     }
 }
 
+// A line as an index into the control store.
+impl From<Line> for usize {
+    ghost from_gives = { λ line n. n ≡ line.0 };
+
+    fn from(line: Line) -> usize {
+        line.0 as usize
+    }
+}
+
 impl Address {
     // The address that the low 12 bits of a word name.
     pub fn of(word: u16) -> Self
