@@ -87,7 +87,7 @@ pub extern "C" fn facetgrove_micro_list(
     let listed = lister::list(store, room);
     *told = match listed {
         Ok(length) => [length, 0],
-        Err(refusal) => [0, refusal.line().map_or(0, |line| line.0 as usize)],
+        Err(refusal) => [0, lists::line_named(refusal.line())],
     };
     lists::answer_of(listed)
 }

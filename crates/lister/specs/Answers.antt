@@ -1,6 +1,7 @@
 -- What a call of the lister answers and leaves (01, Answer numbers: 1, 16, 4, 17 in this order, then 0).
 use Rattle.std.specs.Prelude.{ℕ, cond, List, ◌++◌, Option, Some, None, Result, Ok, Err, ltb, length, drop}
 use Rattle.word.specs.declared.Line.{Line}
+use Rattle.word.specs.Answer.{named}
 use Rattle.store.specs.Store.{wrong_store, words, first_bad}
 use Rattle.microtext.specs.Listing.{listing}
 use Rattle.lister.specs.declared.Refusal.{Refusal}
@@ -26,11 +27,6 @@ line_of WrongSize = None
 line_of SmallRoom = None
 line_of (BadWord line) = Some line
 line_of PastRoom = None
-
--- Its number, 0 where none is named.
-abbrev pub named : Option Line → ℕ
-named (Some line) = line.0
-named None = 0
 
 -- What a caller sees of a call that leaves the room at `left`.
 abbrev pub seen : Result ℕ Refusal → List ℕ → Outcome

@@ -10,7 +10,8 @@ use Rattle.bus.specs.Stops.{number_of}
 use Rattle.engine.specs.declared.Machine.{Machine}
 use Rattle.engine.specs.declared.Refusal.{Refusal}
 use Rattle.engine.specs.declared.Refusal.TheVariants.{Lent, BadWord}
-use Rattle.engine.specs.Run.{number, named, ended_by}
+use Rattle.word.specs.Answer.{named}
+use Rattle.engine.specs.Run.{number, named_line, ended_by}
 use Rattle.lists.specs.Engine.{leaves, refuses, state_list}
 
 pub ran_leaves : (before machine : Machine) (done : ℕ) (stop : Option Stop) (memory log registers state : List ℕ)
@@ -29,7 +30,7 @@ ran_leaves before machine done (Some LogFull) memory log registers state = refl
 
 pub refused_leaves : (before : Machine) (refusal : Refusal) (memory log registers state : List ℕ)
     → leaves (ended_by before (Err refusal) memory log) registers state
-    ≡ record { answer = number refusal; registers = registers; state = state; memory = memory; log = log; told = 0 ∷ named refusal ∷ [] }
+    ≡ record { answer = number refusal; registers = registers; state = state; memory = memory; log = log; told = 0 ∷ named (named_line refusal) ∷ [] }
 unfolding leaves refuses
 refused_leaves before (Lent WrongSize) memory log registers state = refl
 refused_leaves before (Lent PastEnd) memory log registers state = refl

@@ -3,7 +3,8 @@
 
 ghost use Rattle.std.specs.Prelude.{◌≡◌, List, ℕ, MatchResult};
 ghost use Rattle.bus.specs.Stops.{number_of};
-ghost use Rattle.engine.specs.Run.{named, ended_by};
+ghost use Rattle.word.specs.Answer.{named};
+ghost use Rattle.engine.specs.Run.{ended_by};
 ghost use Rattle.interpreter.specs.Run.{ended_by as interpreter_ended_by};
 ghost use Rattle.lists.specs.Engine.{machine_of, counted, leaves};
 ghost use Rattle.lists.specs.Interpreter.{cpu_of, leaves as interpreter_leaves};
@@ -32,11 +33,11 @@ pub fn number_of(stop: Option<Stop>) -> u32
     stop.map_or(0, u32::from)
 }
 
-// The line that a refusal names, else 0.
-fn line_named(refusal: Refusal) -> usize
-    ensures { result ≡ named refusal }
+// The line that a refusal names, as a number; 0 where it names none.
+pub fn line_named(line: Option<Line>) -> usize
+    ensures { result ≡ named line }
 {
-    refusal.line().map_or(0, |line| line.0 as usize)
+    line.map_or(0, usize::from)
 }
 
 // The machine that a caller's registers and state stand for. A line or half done that the machine has not goes as line 64, which the engine refuses.
@@ -78,19 +79,20 @@ pub fn hand_back_engine(
                 stop,
             },
         ) => {
+            // A name of its own, since the borrow checker takes no array straight from a field.
             let held = machine.registers;
             *registers = held;
             *state = [
                 machine.place,
                 machine.count,
-                machine.line.0 as usize,
+                machine.line.into(),
                 machine.half.into(),
             ];
             *told = [done as usize, 0];
             number_of(stop)
         }
         Err(refusal) => {
-            *told = [0, line_named(refusal)];
+            *told = [0, line_named(refusal.line())];
             refusal.into()
         }
     }
