@@ -33,8 +33,9 @@ pub struct Target {
 }
 
 // How far a part has been read.
-#[derive(Clone, Copy, Debug, PartialEq, Eq)]
+#[derive(Clone, Copy, Debug, Default, PartialEq, Eq)]
 pub enum Stage {
+    #[default]
     Start,
     Named { to: Option<u32> },
     Assigned { to: Option<u32> },
