@@ -15,6 +15,7 @@ use token::Token;
 use word::Line;
 
 // What the parts of a line have given: a target above 63, a kind twice, an operation, and the fields.
+// They stay flags beside the fields, and no Option or Result: `add`, `clash` and `settled` are said of them.
 #[derive(Clone, Copy, Debug, Default, PartialEq, Eq)]
 pub struct Given {
     pub far: bool,
@@ -177,6 +178,7 @@ fn read_parts(text: &[u8], at: usize) -> Result<Read, Fault>
 }
 
 // The line of `text` that begins at `at`, as the line numbered `line`.
+// Text and place stay two parameters: `reading_at` says places in the whole text.
 #[tactic(auto, using(crate::proofs::Whole::extra_line))]
 pub fn read_line(text: &[u8], at: usize, line: Line) -> Result<Read, Fault>
     ensures { result ≡ reading_at text.now at line.0 }
