@@ -7,7 +7,7 @@ use native.Mathlib.Omega.{arith}
 use borrow.Author.Tests.{lt-ltb, leb-false, eqb-true, eq-eqb}
 use lib.Dec.{leb, ltb, eqb}
 use Rattle.std.specs.Prelude.{Option, Some, None, Ok, Err, is_some}
-use Rattle.std.specs.Option.{option_map, option_eq, unwrap_or}
+use Rattle.std.specs.Option.{option_map, unwrap_or}
 use Rattle.part.proofs.Formula.{named}
 use Rattle.microword.specs.Microword.{word_of, idle, binary, unused_clear, is_normal}
 use Rattle.microword.proofs.Laws.{fields_back, word_below}
@@ -321,7 +321,7 @@ line_normal k s w e = go (ltb k 64) (tokens s) e
 
     number_first : (ts : List Token) → numbered k ts ≡ Ok w → is_normal w ≡ true
     number_first [] e = let o : ◌≡◌ {A = ℕ} 0 1 = cc in absurd (omega arith)
-    number_first (n ∷ ts) e = one (option_eq eqb (from_decimal n) (Some k)) e
+    number_first (n ∷ ts) e = one (eqb (unwrap_or (from_decimal n) 100) k) e
       where
         one : (b : Bool) → cond b (behind_number ts) (Err WrongNumber) ≡ Ok w → is_normal w ≡ true
         one true e = behind ts e

@@ -56,25 +56,27 @@ three_spelt p rest h =
     rw (spelt_at p 0 no_piece (omega arith), spelt_at p 1 no_piece (omega arith), spelt_at p 2 no_piece (omega arith), spelt_end p 3 (omega arith))
     (simp (append_assoc, append-nil))
 
-regrouped : (to computed : List ℕ) → (bytes " " ++ to ++ bytes ":=") ++ (computed ++ bytes ";") ≡ bytes " " ++ (to ++ bytes ":=" ++ computed) ++ bytes ";"
+regrouped : (to computed : List ℕ) → bytes " " ++ (to ++ (bytes ":=" ++ (computed ++ bytes ";"))) ≡ bytes " " ++ (to ++ bytes ":=" ++ computed) ++ bytes ";"
 regrouped to computed = simp append_assoc
 
 -- An operation of where it stores and the formula's pieces.
-pub operation_spelt : (m : Fields) (to : List ℕ) (x : List (Bor (List ℕ))) → idle m ≡ false → to ≡ bytes " " ++ destination m ++ bytes ":="
-    → length x ≡ 3 → spelt x ≡ formula m → to ++ (piece_at x 0 ++ (piece_at x 1 ++ (piece_at x 2 ++ bytes ";"))) ≡ operation_part m
+pub operation_spelt : (m : Fields) (to : List ℕ) (x : List (Bor (List ℕ))) → idle m ≡ false → to ≡ destination m → length x ≡ 3 → spelt x ≡ formula m
+    → bytes " " ++ (to ++ (bytes ":=" ++ (piece_at x 0 ++ (piece_at x 1 ++ (piece_at x 2 ++ bytes ";"))))) ≡ operation_part m
 unfolding operation
 operation_spelt m to x busy stores three computes = rw (three_spelt x (bytes ";") three, stores, computes, busy) (regrouped (destination m) (formula m))
 
-pub five_spelt : (p : List (Bor (List ℕ))) (rest : List ℕ) → length p ≡ 5
-    → piece_at p 0 ++ (piece_at p 1 ++ (piece_at p 2 ++ (piece_at p 3 ++ (piece_at p 4 ++ rest)))) ≡ spelt p ++ rest
-five_spelt p rest h =
+pub seven_spelt : (p : List (Bor (List ℕ))) (rest : List ℕ) → length p ≡ 7
+    → piece_at p 0 ++ (piece_at p 1 ++ (piece_at p 2 ++ (piece_at p 3 ++ (piece_at p 4 ++ (piece_at p 5 ++ (piece_at p 6 ++ rest)))))) ≡ spelt p ++ rest
+seven_spelt p rest h =
     rw (
       spelt_at p 0 no_piece (omega arith),
       spelt_at p 1 no_piece (omega arith),
       spelt_at p 2 no_piece (omega arith),
       spelt_at p 3 no_piece (omega arith),
       spelt_at p 4 no_piece (omega arith),
-      spelt_end p 5 (omega arith),
+      spelt_at p 5 no_piece (omega arith),
+      spelt_at p 6 no_piece (omega arith),
+      spelt_end p 7 (omega arith),
     )
     (simp (append_assoc, append-nil))
 

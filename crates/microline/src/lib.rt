@@ -38,24 +38,14 @@ fn register<'a>(r: u32) -> &'a [u8]
     }
 }
 
-// Where the operation stores, with the space before and the sign behind; `alu` stores nothing.
+// Where the operation stores; `alu` stores nothing.
 fn destination<'a>(m: Fields) -> &'a [u8]
-    ensures { result.now ≡ (32 ∷ []) ++ destination m ++ (58 ∷ 61 ∷ []) }
+    ensures { result.now ≡ destination m }
 {
     if m.hs == 0 {
-        return b" alu:=";
+        return b"alu";
     }
-    match m.s {
-        0 => b" cp:=",
-        1 => b" ac:=",
-        2 => b" pp:=",
-        3 => b" ri:=",
-        4 => b" rt:=",
-        5 => b" masc:=",
-        6 => b" rem:=",
-        7 => b" rdm:=",
-        _ => b" :=",
-    }
+    register(m.s)
 }
 
 // What F computes of the registers a and b.
@@ -80,14 +70,14 @@ fn formula<'a>(m: Fields) -> [&'a [u8]; 3]
 
 // The operation; none where nothing asks for its result.
 #[tactic(auto, unfolding(microtext::specs::Listing::operation))]
-fn operation<'a>(m: Fields) -> [&'a [u8]; 5]
+fn operation<'a>(m: Fields) -> [&'a [u8]; 7]
     ensures { spelt result ≡ operation_part m }
 {
     if is_idle(m) {
-        return [b"", b"", b"", b"", b""];
+        return [b"", b"", b"", b"", b"", b"", b""];
     }
     let [x, y, z] = formula(m);
-    [destination(m), x, y, z, b";"]
+    [b" ", destination(m), b":=", x, y, z, b";"]
 }
 
 // `rd` or `wr`, where the word has one.
@@ -149,14 +139,16 @@ fn short(k: u32, digits: &[u8; 3]) -> &[u8]
 }
 
 // The pieces of a line, of its number with the colon and its jump's target with the semicolon.
-fn pieces<'a>(number: &'a [u8], m: Fields, target: &'a [u8]) -> [&'a [u8]; 10]
+fn pieces<'a>(number: &'a [u8], m: Fields, target: &'a [u8]) -> [&'a [u8]; 12]
     requires { target.now ≡ short_decimal m.end ++ 59 ∷ [] }
     ensures { spelt result ≡ number.now ++ operation_part m ++ transfer_part m ++ jump_part m ++ 10 ∷ [] }
 {
-    let [to, x, y, z, stop] = operation(m);
+    let [space, to, sign, x, y, z, stop] = operation(m);
     let moved = transfer(m);
     let [words, goal] = jump(m, target);
-    [number, to, x, y, z, stop, moved, words, goal, b"\n"]
+    [
+        number, space, to, sign, x, y, z, stop, moved, words, goal, b"\n",
+    ]
 }
 
 // A control word as a line, from the start of the room. A smaller room than a line may need, or a number that no line has, is left as found;

@@ -3,11 +3,12 @@ use Prim.Native.Nat.{ℕ, ◌≤◌, ◌<◌}
 use mathlib.Core.Path.{◌≡◌, refl, sym, ap, ◌∙◌}
 use mathlib.Core.Bool.{Bool, true, false, cond, false≢true}
 use mathlib.Core.List.{List, [], ◌∷◌, map}
-use borrow.Author.Tests.{lt-ltb, le-ltb}
+use borrow.Author.Tests.{lt-ltb, le-ltb, ne_eqb}
+use native.Mathlib.Omega.{arith}
 use lib.Dec.{eqb}
 use lib.ListN.{length}
 use Rattle.std.specs.Prelude.{Option, Some, None, Ok, Err}
-use Rattle.std.specs.Option.{option_and_then, option_eq}
+use Rattle.std.specs.Option.{option_and_then, option_eq, unwrap_or}
 use Rattle.token.specs.Tokens.{Token, tokens}
 use Rattle.token.specs.Code.Next.{packed, scanned}
 use Rattle.token.specs.declared.Token.{Token as Packed}
@@ -17,6 +18,7 @@ use Rattle.token.proofs.Packed.{known}
 use Rattle.token.proofs.Next.{taking, next}
 use Rattle.part.specs.declared.Part.{Part}
 use Rattle.part.proofs.Course.{rest, rest_of, Fine, Begun, Reaches, step, finish}
+use Rattle.text.specs.Decimal.{from_decimal}
 use Rattle.text.specs.Text.{bytes, ◌is◌, line_at, end_at, next_line, behind_line}
 use Rattle.token.proofs.Decimals.{decimal_of_lem}
 use Rattle.token.specs.Code.Numbers.{codes_at, decimal_of, code_of}
@@ -214,10 +216,17 @@ unfolding behind_number coded_parts
 coded_parts_lem [] a = refl
 coded_parts_lem (c ∷ ts) a = rw (known c (bytes ":") a.0 refl, all_taken_lem ts a.1 nothing Start tt, from_start (divided ts)) refl
 
-coded_line : (k : ℕ) (ts : List Token) → AllBytes ts → numbered k ts ≡ coded k (map packed ts)
+-- No line that is asked for has the number 100.
+same_number : (k : ℕ) → k < 64 → (n : Option ℕ) → eqb (unwrap_or n 100) k ≡ option_eq eqb n (Some k)
+same_number k h None = ne_eqb 100 k (λ e. omega arith)
+same_number k h (Some n) = refl
+
+coded_line : (k : ℕ) → k < 64 → (ts : List Token) → AllBytes ts → numbered k ts ≡ coded k (map packed ts)
 unfolding numbered coded
-coded_line k [] a = refl
-coded_line k (n ∷ ts) a = rw (decimal_of_lem n a.0, coded_parts_lem ts a.1) refl
+coded_line k h [] a = refl
+coded_line k h (n ∷ ts) a =
+    ap (λ (b : Bool). cond b (behind_number ts) (Err WrongNumber)) (same_number k h (from_decimal n))
+    ∙ rw (decimal_of_lem n a.0, coded_parts_lem ts a.1) refl
 
 -- A 65th line.
 pub extra_line : (text : List ℕ) (at k : ℕ) → 64 ≤ k → Err ExtraLine ≡ reading_at text at k
@@ -237,7 +246,7 @@ module _ (text : List ℕ) (all_bytes : Bytes text) (at k : ℕ) (h : k < 64) (f
   read : reading_at text at k ≡ reading (coded k (taking first.token (codes_at text first.behind))) (next_line text at)
   unfolding reading_at line
   read =
-      rw (lt-ltb k 64 h, coded_line k (tokens (line_at text at)) (line_bytes text at all_bytes), (next text at first f).codes) refl
+      rw (lt-ltb k 64 h, coded_line k h (tokens (line_at text at)) (line_bytes text at all_bytes), (next text at first f).codes) refl
 
   pub wrong_number : option_eq eqb (number first.token) (Some k) ≡ false → Err WrongNumber ≡ reading_at text at k
   unfolding coded

@@ -1,6 +1,6 @@
 -- A line of micro text: its number, a colon, and parts divided by semicolons (01, Micro text and images; answers 11 to 15).
 use Rattle.std.specs.Prelude.{ℕ, Bool, true, false, cond, not, ◌&&◌, ◌||◌, Option, Some, None, Result, Ok, Err, List, [], ◌∷◌, leb, ltb, eqb, is_some}
-use Rattle.std.specs.Option.{unwrap_or, option_eq}
+use Rattle.std.specs.Option.{unwrap_or}
 use Rattle.microword.specs.Microword.{word_of}
 use Rattle.microword.specs.declared.Fields.{Fields}
 use Rattle.token.specs.Tokens.{Token, tokens}
@@ -111,10 +111,10 @@ unfoldable pub behind_number : List Token → Meaning
 behind_number [] = Err Ungrammatical
 behind_number (c ∷ ts) = cond (c is ":") (meaning nothing (parts (divided ts))) (Err Ungrammatical)
 
--- 12: the number is missing, has a leading zero, or is not the next from 0.
+-- 12: the number is missing, has a leading zero, or is not the next from 0. What spells none counts as 100, which no line is.
 unfoldable pub numbered : ℕ → List Token → Meaning
 numbered k [] = Err WrongNumber
-numbered k (n ∷ ts) = cond (option_eq eqb (from_decimal n) (Some k)) (behind_number ts) (Err WrongNumber)
+numbered k (n ∷ ts) = cond (eqb (unwrap_or (from_decimal n) 100) k) (behind_number ts) (Err WrongNumber)
 
 -- The line k, counted from 0, of these bytes. 11: a 65th line, whatever it holds.
 unfoldable pub line : ℕ → List ℕ → Meaning

@@ -15,7 +15,8 @@ use token::Token;
 use word::Line;
 
 // What the parts of a line have given: a target above 63, a kind twice, an operation, and the fields.
-#[derive(Clone, Copy, Debug, PartialEq, Eq)]
+// They stay flags beside the fields, and no Option or Result: `add`, `clash` and `settled` are said of them.
+#[derive(Clone, Copy, Debug, Default, PartialEq, Eq)]
 pub struct Given {
     pub far: bool,
     pub twice: bool,
@@ -24,7 +25,7 @@ pub struct Given {
 }
 
 // The parts of a line so far, and how far the next one has been read.
-#[derive(Clone, Copy, Debug, PartialEq, Eq)]
+#[derive(Clone, Copy, Debug, Default, PartialEq, Eq)]
 pub struct Parts {
     pub given: Given,
     pub stage: Stage,
@@ -159,31 +160,11 @@ impl Parts {
     }
 }
 
-const NO_PARTS: Parts = Parts {
-    given: Given {
-        far: false,
-        twice: false,
-        operation: false,
-        fields: Fields {
-            a: 0,
-            b: 0,
-            s: 0,
-            hs: 0,
-            f: 0,
-            rd: 0,
-            wr: 0,
-            sq: 0,
-            end: 0,
-        },
-    },
-    stage: Stage::Start,
-};
-
 // The parts of the line that goes on at `at`.
 fn read_parts(text: &[u8], at: usize) -> Result<Read, Fault>
     ensures { result ≡ reading_of (onward (all_taken no_parts (codes_at text.now at)) concluded) (next_line text.now at) }
 {
-    let mut parts = NO_PARTS;
+    let mut parts = Parts::default();
     let mut next = token::next_token(text, at);
     while let Some(token) = next.token {
         parts = parts.taken(token)?;
@@ -197,6 +178,7 @@ fn read_parts(text: &[u8], at: usize) -> Result<Read, Fault>
 }
 
 // The line of `text` that begins at `at`, as the line numbered `line`.
+// Text and place stay two parameters: `reading_at` says places in the whole text.
 #[tactic(auto, using(crate::proofs::Whole::extra_line))]
 pub fn read_line(text: &[u8], at: usize, line: Line) -> Result<Read, Fault>
     ensures { result ≡ reading_at text.now at line.0 }

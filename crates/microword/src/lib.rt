@@ -7,7 +7,7 @@ ghost use Rattle.microword.specs.Microword.{fields_of, word_of, bad_word, idle, 
 use word::{put_below, take};
 
 // The nine fields, highest first. They are numbers and no enums or flags: `word_of`'s clause and the definitions answer for any numbers.
-#[derive(Clone, Copy, Debug, PartialEq, Eq)]
+#[derive(Clone, Copy, Debug, Default, PartialEq, Eq)]
 pub struct Fields {
     pub a: u32,
     pub b: u32,

@@ -7,6 +7,7 @@ ghost use Rattle.part.specs.Code.Stage.{register_of, destination_of, completed a
 use token::Token;
 
 // A part of a line. `to` is the register that keeps the result, if one does; the other numbers are document 01's of the word's fields.
+// f, rd, wr, sq and end stay numbers and no enums: `add` and `word_of` are said of any numbers.
 #[derive(Clone, Copy, Debug, PartialEq, Eq)]
 pub enum Part {
     Operation {
@@ -33,8 +34,9 @@ pub struct Target {
 }
 
 // How far a part has been read.
-#[derive(Clone, Copy, Debug, PartialEq, Eq)]
+#[derive(Clone, Copy, Debug, Default, PartialEq, Eq)]
 pub enum Stage {
+    #[default]
     Start,
     Named { to: Option<u32> },
     Assigned { to: Option<u32> },

@@ -1,4 +1,4 @@
-// Tokens: the next one of a line of micro text, as a number, with what is behind its bytes.
+// Tokens: the next one of a line of micro text, if there is one, with what is behind its bytes.
 #![tactic(auto)]
 
 ghost use Rattle.std.specs.Prelude.{◌≡◌, ◌<◌, length, get_or};
@@ -6,6 +6,7 @@ ghost use Rattle.token.specs.Code.Next.{grown as grown_by, told, start_at, scann
 ghost use Rattle.token.specs.Code.Numbers.{decimal_of};
 
 // A token: its bytes behind a 1, as the digits of one number to the base 256. The fifth byte is the last that counts.
+// It is no slice of bytes: that was tried, and each `match` on a token fell into many goals that did not close.
 #[derive(Clone, Copy, Debug, PartialEq, Eq)]
 pub struct Token(pub u64);
 
@@ -96,6 +97,8 @@ pub struct Scanned {
 }
 
 // Where the next token begins: the first byte from `at` on that is no space. From there to what is behind it are the token's bytes.
+// It walks by index: `text.get(at..)` with `position` was tried, and `spaces` and `scanned` did not close.
+// Text and place stay two parameters: `start_at` says places in the whole text.
 #[tactic(auto, using(crate::proofs::Scan::starts_here))]
 pub fn start(text: &[u8], at: usize) -> usize
     ensures starts { result ≡ start_at text.now at }

@@ -8,7 +8,7 @@ use borrow.Author.Tests.{lt-ltb, lt-leb, eqb-true, eqb-false, eq-eqb}
 use lib.Dec.{leb, eqb}
 use lib.ListN.{length}
 use Rattle.std.specs.Prelude.{Option, Some, None, Ok, is_some}
-use Rattle.std.specs.Option.{option_eq, unwrap_or}
+use Rattle.std.specs.Option.{unwrap_or}
 use Rattle.microword.specs.Microword.{fields_of, word_of, bad_word, idle, binary, normal_fields, normal_form}
 use Rattle.microword.specs.declared.Fields.{Fields}
 use Rattle.microword.proofs.Laws.{fields_within}
@@ -264,7 +264,7 @@ texts_mean : (m : Fields) → Within m → (eqb m.rd 1 && eqb m.wr 1) ≡ false 
 texts_mean m h apart = ap (meaning nothing) (texts_parts m h apart) ∙ normal_given m h apart ∙ settles m h apart
 
 -- A line's number is read back.
-number_spelt : (k : ℕ) → k < 64 → option_eq eqb (from_decimal (short_decimal k)) (Some k) ≡ true
+number_spelt : (k : ℕ) → k < 64 → eqb (unwrap_or (from_decimal (short_decimal k)) 100) k ≡ true
 number_spelt k l = rw (number_back k l).value (eq-eqb k k refl)
 
 -- A listed line reads back.

@@ -6,7 +6,11 @@ use Rattle.microtext.proofs.Reached.{reached_start, reached_next, reached_fault,
 use Rattle.microtext.proofs.read_parts.Goals as goal
 
 pub loop-next-init : goal.loop-next-init
-loop-next-init c = reached_start c.args.text.now c.args.at c.next_token-next.result c.next_token-next.ensures
+loop-next-init c =
+    let e = c.default-parts.ensures in
+    let g = e.0 in
+    let m = g.1.1.1 in
+    rw (e.1, g.0, g.1.0, g.1.1.0, m.0, m.1.0, m.1.1.0, m.1.1.1.0, m.1.1.1.1.0, m.1.1.1.1.1.0, m.1.1.1.1.1.1.0, m.1.1.1.1.1.1.1.0, m.1.1.1.1.1.1.1.1) (reached_start c.args.text.now c.args.at c.next_token-next.result c.next_token-next.ensures)
 
 pub loop-next-smaller : goal.loop-next-smaller
 loop-next-smaller c =
