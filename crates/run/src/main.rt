@@ -14,9 +14,6 @@ use interpreter::Ran;
 use std::process::ExitCode;
 use word::Address;
 
-// The bytes of the longest image.
-const LONGEST: usize = 16368;
-
 // Why an input is not run: it is more than any image has, or the image reader refuses it.
 #[derive(Clone, Copy, Debug, PartialEq, Eq)]
 enum Refusal {
@@ -49,7 +46,7 @@ impl From<Refusal> for u32 {
 fn read(input: &[u8], memory: &mut [u16]) -> Result<(), Refusal>
     ensures { admitted input.now memory.old ≡ record { answer = answered number result; memory = memory.new } }
 {
-    if LONGEST < input.len() {
+    if image::LONGEST < input.len() {
         return Err(Refusal::TooLong);
     }
     image::read(input, memory)?;
@@ -112,7 +109,7 @@ fn text(input: &[u8], room: &mut [u8]) -> usize
 
 // A read that fails runs nothing.
 fn main(rt: HostRuntime) -> ExitCode {
-    let mut input = [0u8; 16369];
+    let mut input = [0u8; image::LONGEST + 1];
     let Ok(n) = console::read_input(&rt, b"run", &mut input) else {
         return ExitCode::FAILURE;
     };
