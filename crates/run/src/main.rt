@@ -1,8 +1,7 @@
 // The run program: an image on standard input, the report of 1,000 instructions on standard output, or the answer line.
 #![tactic(auto)]
 
-ghost use Rattle.std.specs.Prelude.{◌≡◌, ◌≤◌, length as lib_length, take};
-ghost use Rattle.io.specs.Counts.{IsPrefixLen};
+ghost use Rattle.std.specs.Prelude.{◌≡◌};
 ghost use Rattle.word.specs.Answer.{answered};
 ghost use Rattle.run.specs.declared.Refusal.TheVariants.{Image};
 ghost use Rattle.run.specs.Refusals.{number};
@@ -53,12 +52,10 @@ fn read(input: &[u8], memory: &mut [u16]) -> Result<(), Refusal>
     Ok(())
 }
 
-// The report of a memory's run, at the front of the room. A refused run leaves the registers as they stood.
+// The report of a memory's run, in the room. A refused run leaves the registers as they stood.
 #[tactic(auto, using(console::proofs::Laws::front), unfolding(crate::specs::Report::ran))]
-fn run_memory(memory: &mut [u16], room: &mut [u8]) -> usize
-    requires { 512 ≤ lib_length room.old }
-    ensures room_after { take result room.new ≡ ran memory.old }
-    ensures prefix_len { IsPrefixLen result room.new }
+fn run_memory<'a>(memory: &mut [u16], room: &'a mut [u8; 512]) -> &'a [u8]
+    ensures { result.now ≡ ran memory.old }
 {
     let mut log = [0u16; 8];
     let core = Core {
@@ -90,20 +87,22 @@ fn run_memory(memory: &mut [u16], room: &mut [u8]) -> usize
         ac: core.ac,
         count: end.cpu.count,
     };
-    console::report(run, &log, room)
+    let length = console::report(run, &log, room);
+    &room[..length]
 }
 
-// The text for an input, at the front of the room.
+// The text for an input, in the room.
 #[tactic(auto, using(crate::proofs::Laws::read_text))]
-fn text(input: &[u8], room: &mut [u8]) -> usize
-    requires { 512 ≤ lib_length room.old }
-    ensures room_after { take result room.new ≡ printed input.now }
-    ensures prefix_len { IsPrefixLen result room.new }
+fn text<'a>(input: &[u8], room: &'a mut [u8; 512]) -> &'a [u8]
+    ensures { result.now ≡ printed input.now }
 {
     let mut memory = [0u16; 4096];
     match read(input, &mut memory) {
         Ok(()) => run_memory(&mut memory, room),
-        Err(refusal) => console::refusal(u32::from(refusal), None, room),
+        Err(refusal) => {
+            let length = console::refusal(u32::from(refusal), None, room);
+            &room[..length]
+        }
     }
 }
 
@@ -114,6 +113,5 @@ fn main(rt: HostRuntime) -> ExitCode {
         return ExitCode::FAILURE;
     };
     let mut room = [0u8; 512];
-    let length = text(&input[..n], &mut room);
-    console::print(&rt, b"run", &room[..length])
+    console::print(&rt, b"run", text(&input[..n], &mut room))
 }
