@@ -1,8 +1,7 @@
 // The run program: an image on standard input, the report of 1,000 instructions on standard output, or the answer line.
 #![tactic(auto)]
 
-ghost use Rattle.std.specs.Prelude.{◌≡◌, ◌≤◌, length as lib_length, take};
-ghost use Rattle.io.specs.Counts.{IsPrefixLen};
+ghost use Rattle.std.specs.Prelude.{◌≡◌};
 ghost use Rattle.word.specs.Answer.{answered};
 ghost use Rattle.run.specs.declared.Refusal.TheVariants.{Image};
 ghost use Rattle.run.specs.Refusals.{number};
@@ -13,9 +12,6 @@ use instruction::{Core, Cpu};
 use interpreter::Ran;
 use std::process::ExitCode;
 use word::Address;
-
-// The bytes of the longest image.
-const LONGEST: usize = 16368;
 
 // Why an input is not run: it is more than any image has, or the image reader refuses it.
 #[derive(Clone, Copy, Debug, PartialEq, Eq)]
@@ -49,19 +45,17 @@ impl From<Refusal> for u32 {
 fn read(input: &[u8], memory: &mut [u16]) -> Result<(), Refusal>
     ensures { admitted input.now memory.old ≡ record { answer = answered number result; memory = memory.new } }
 {
-    if LONGEST < input.len() {
+    if image::LONGEST < input.len() {
         return Err(Refusal::TooLong);
     }
     image::read(input, memory)?;
     Ok(())
 }
 
-// The report of a memory's run, at the front of the room. A refused run leaves the registers as they stood.
+// The report of a memory's run, in the room. A refused run leaves the registers as they stood.
 #[tactic(auto, using(console::proofs::Laws::front), unfolding(crate::specs::Report::ran))]
-fn run_memory(memory: &mut [u16], room: &mut [u8]) -> usize
-    requires { 512 ≤ lib_length room.old }
-    ensures room_after { take result room.new ≡ ran memory.old }
-    ensures prefix_len { IsPrefixLen result room.new }
+fn run_memory<'a>(memory: &mut [u16], room: &'a mut [u8; 512]) -> &'a [u8]
+    ensures { result.now ≡ ran memory.old }
 {
     let mut log = [0u16; 8];
     let core = Core {
@@ -93,30 +87,31 @@ fn run_memory(memory: &mut [u16], room: &mut [u8]) -> usize
         ac: core.ac,
         count: end.cpu.count,
     };
-    console::report(run, &log, room)
+    let length = console::report(run, &log, room);
+    &room[..length]
 }
 
-// The text for an input, at the front of the room.
+// The text for an input, in the room.
 #[tactic(auto, using(crate::proofs::Laws::read_text))]
-fn text(input: &[u8], room: &mut [u8]) -> usize
-    requires { 512 ≤ lib_length room.old }
-    ensures room_after { take result room.new ≡ printed input.now }
-    ensures prefix_len { IsPrefixLen result room.new }
+fn text<'a>(input: &[u8], room: &'a mut [u8; 512]) -> &'a [u8]
+    ensures { result.now ≡ printed input.now }
 {
     let mut memory = [0u16; 4096];
     match read(input, &mut memory) {
         Ok(()) => run_memory(&mut memory, room),
-        Err(refusal) => console::refusal(u32::from(refusal), None, room),
+        Err(refusal) => {
+            let length = console::refusal(u32::from(refusal), None, room);
+            &room[..length]
+        }
     }
 }
 
 // A read that fails runs nothing.
 fn main(rt: HostRuntime) -> ExitCode {
-    let mut input = [0u8; 16369];
+    let mut input = [0u8; image::LONGEST + 1];
     let Ok(n) = console::read_input(&rt, b"run", &mut input) else {
         return ExitCode::FAILURE;
     };
     let mut room = [0u8; 512];
-    let length = text(&input[..n], &mut room);
-    console::print(&rt, b"run", &room[..length])
+    console::print(&rt, b"run", text(&input[..n], &mut room))
 }
