@@ -2,14 +2,12 @@
 #![tactic(auto)]
 
 ghost use Rattle.std.specs.Prelude.{◌≡◌, List, ℕ, MatchResult};
-ghost use Rattle.bus.specs.Stops.{number_of};
 ghost use Rattle.word.specs.Answer.{named};
 ghost use Rattle.engine.specs.Run.{ended_by};
 ghost use Rattle.interpreter.specs.Run.{ended_by as interpreter_ended_by};
 ghost use Rattle.lists.specs.Engine.{machine_of, counted, leaves};
 ghost use Rattle.lists.specs.Interpreter.{cpu_of, leaves as interpreter_leaves};
 
-use bus::Stop;
 use datapath::Half;
 use engine::{Machine, Ran, Refusal};
 use instruction::{Core, Cpu};
@@ -24,13 +22,6 @@ pub fn answer_of<T: Drop, E: Drop + Into<u32>>(called: Result<T, E>) -> u32
         Ok(_) => 0,
         Err(refusal) => refusal.into(),
     }
-}
-
-// The answer number of a run that was not refused: 0 where nothing stopped it.
-pub fn number_of(stop: Option<Stop>) -> u32
-    ensures { result ≡ number_of stop }
-{
-    stop.map_or(0, u32::from)
 }
 
 // The line that a refusal names, as a number; 0 where it names none.
@@ -89,7 +80,7 @@ pub fn hand_back_engine(
                 machine.half.into(),
             ];
             *told = [done as usize, 0];
-            number_of(stop)
+            bus::number_of(stop)
         }
         Err(refusal) => {
             *told = [0, line_named(refusal.line())];
@@ -151,7 +142,7 @@ pub fn hand_back_interpreter(
             *registers = [core.cp.0, core.ac, core.pp.0];
             *state = [core.place, count];
             *told = [done as u64, cycles];
-            number_of(stop)
+            bus::number_of(stop)
         }
         Err(refusal) => {
             *told = [0, 0];
