@@ -280,7 +280,7 @@ fn check(memory: &[u16; 4096], input: &[u16], log: &[u16], cpu: Cpu) -> Result<(
     if bus::is_past_end(input, core.place, log, count) {
         return Err(Refusal::PastEnd);
     }
-    if bus::is_outside(core.cp.0) | bus::is_outside(core.pp.0) {
+    if bus::is_outside(core.cp.0) || bus::is_outside(core.pp.0) {
         return Err(Refusal::OutOfRange);
     }
     Ok(())
