@@ -84,7 +84,7 @@ pub fn step(
     let first = begin(word, before.line, registers);
     let m = first.m;
     // A cycle with neither RD nor WR leaves nothing half done.
-    if (m.rd != 1) & (m.wr != 1) {
+    if m.rd != 1 && m.wr != 1 {
         return Ok(Standing {
             line: first.next,
             half: Half::Nothing,

@@ -74,7 +74,7 @@ pub struct Ran {
     pub stop: Option<Stop>,
 }
 
-// Refusals 1 to 4, in order.
+// Refusals 1 to 4, in order. The lists come one by one, as C lends them.
 #[tactic(auto, unfolding(crate::specs::Run::refusal, crate::specs::Run::refusal_by))]
 fn check(
     store: &[u32],

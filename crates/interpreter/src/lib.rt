@@ -169,6 +169,7 @@ fn pop_named_below(memory: &mut [u16; 4096], own: Core) -> Option<Passed>
 
 // The table, in its order, below the ports. A jump's test stands here, since a choice of values would tie CP to AC.
 // It stands in `instruction` too: one table for both, which reads and says its write, took up to 1.23 times plain C's time, this 1.02.
+// The code stays its number, as in `instruction`.
 #[tactic(auto, unfolding(instruction::specs::Instruction::action, instruction::specs::Instruction::branches, instruction::specs::Instruction::sets, instruction::specs::Instruction::stores))]
 fn act_below(code: u32, x: Address, memory: &mut [u16; 4096], own: Core) -> Option<Passed>
     ensures { Plain (λ input s. action input code x.0 s) own memory.old result memory.new }
@@ -238,6 +239,7 @@ fn pass_below(memory: &mut [u16; 4096], from: Stage, n: u32) -> Stage
 }
 
 // That many single instructions in turn: below the ports as long as none is met, then one through them, and so on.
+// Memory, input and log come one by one, as in `check`.
 #[tactic(auto, using(crate::proofs::BelowPorts::stages))]
 fn carry_out_all(memory: &mut [u16; 4096], input: &[u16], log: &mut [u16], cpu: Cpu, n: u32) -> Ran
     ensures { instructions input.now n (state_of cpu memory.old log.old) ≡ ended_with result memory.new log.new }
@@ -272,6 +274,7 @@ fn carry_out_all(memory: &mut [u16; 4096], input: &[u16], log: &mut [u16], cpu: 
 }
 
 // Refusals 2 and 3, in order: 1 is no more where memory has its 4,096 words.
+// Memory, input and log come one by one and in no Bus, since memory is an array here.
 #[tactic(auto, unfolding(crate::specs::Run::refusal))]
 fn check(memory: &[u16; 4096], input: &[u16], log: &[u16], cpu: Cpu) -> Result<(), Refusal>
     ensures { refusal input.now (state_of cpu memory.now log.now) ≡ answered number result }
@@ -280,7 +283,7 @@ fn check(memory: &[u16; 4096], input: &[u16], log: &[u16], cpu: Cpu) -> Result<(
     if bus::is_past_end(input, core.place, log, count) {
         return Err(Refusal::PastEnd);
     }
-    if bus::is_outside(core.cp.0) | bus::is_outside(core.pp.0) {
+    if bus::is_outside(core.cp.0) || bus::is_outside(core.pp.0) {
         return Err(Refusal::OutOfRange);
     }
     Ok(())

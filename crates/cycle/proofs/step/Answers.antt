@@ -5,8 +5,8 @@ use Rattle.cycle.proofs.Laws.{began_within, rests, carried, refused}
 use Rattle.cycle.proofs.step.Goals as goal
 use Rattle.cycle.proofs.step.Goals.{then-m-eq1, else-m-eq1}
 
-pub returns-then-m-clause-steps : goal.returns-then-m-clause-steps
-returns-then-m-clause-steps c = rests _ _ _ _ c.begin-first.ensures c.if-m.true
+pub returns-then-m-ne1-2-clause-steps : goal.returns-then-m-ne1-2-clause-steps
+returns-then-m-ne1-2-clause-steps c = rests _ _ _ _ c.begin-first.ensures (rw (ne_eqb _ _ c.if-m-ne1.true, ne_eqb _ _ c.if-m-ne1-2.true))
 
 pub bounds-registers-m : goal.bounds-registers-m
 bounds-registers-m c = (began_within _ _ _ c.begin-first.ensures).s
