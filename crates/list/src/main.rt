@@ -1,8 +1,7 @@
 // The list program: the 256 bytes of a control store on standard input, its listing on standard output, or the answer line.
 #![tactic(auto)]
 
-ghost use Rattle.std.specs.Prelude.{◌≡◌, ◌≤◌, IfOk, length as lib_length, take};
-ghost use Rattle.io.specs.Counts.{IsPrefixLen};
+ghost use Rattle.std.specs.Prelude.{◌≡◌, ◌≤◌, IfOk, length as lib_length};
 ghost use Rattle.list.specs.Listing.{words_of, with_words, told, printed};
 ghost use Rattle.lister.specs.Answers.{seen};
 
@@ -24,27 +23,24 @@ fn fill(store: &mut [u32], input: &[u8])
 
 // The text for the lister's answer, which left its listing in the room.
 #[tactic(auto, using(console::proofs::Laws::front, crate::proofs::Laws::told_done, crate::proofs::Laws::told_refusal))]
-fn tell(listed: Result<usize, Refusal>, room: &mut [u8]) -> usize
-    requires wide { 512 ≤ lib_length room.old }
-    requires within { IfOk listed (λ length. length ≤ lib_length room.old) }
-    ensures room_after { take result room.new ≡ told (seen listed room.old) }
-    ensures prefix_len { IsPrefixLen result room.new }
+fn tell<'a>(listed: Result<usize, Refusal>, room: &'a mut [u8; 2816]) -> &'a [u8]
+    requires { IfOk listed (λ length. length ≤ 2816) }
+    ensures { result.now ≡ told (seen listed room.old) }
 {
     match listed {
-        Ok(length) => length,
+        Ok(length) => &room[..length],
         Err(refusal) => {
             let line = refusal.line().map(|line| usize::from(line.0));
-            console::refusal(refusal.into(), line, room)
+            let length = console::refusal(refusal.into(), line, room);
+            &room[..length]
         }
     }
 }
 
-// The text for an input, at the front of a room that the lister accepts.
+// The text for an input, in a room that the lister accepts.
 #[tactic(auto, using(crate::proofs::Laws::listed_within), unfolding(crate::specs::Listing::printed, crate::specs::Listing::told))]
-fn text(input: &[u8], room: &mut [u8]) -> usize
-    requires { 2816 ≤ lib_length room.old }
-    ensures room_after { take result room.new ≡ printed input.now room.old }
-    ensures prefix_len { IsPrefixLen result room.new }
+fn text<'a>(input: &[u8], room: &'a mut [u8; 2816]) -> &'a [u8]
+    ensures { result.now ≡ printed input.now room.old }
 {
     if input.len() != 256 {
         return tell(Err(Refusal::WrongSize), room);
@@ -61,6 +57,5 @@ fn main(rt: HostRuntime) -> ExitCode {
         return ExitCode::FAILURE;
     };
     let mut room = [0u8; 2816];
-    let length = text(&input[..n], &mut room);
-    console::print(&rt, b"list", &room[..length])
+    console::print(&rt, b"list", text(&input[..n], &mut room))
 }

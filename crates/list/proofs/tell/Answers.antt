@@ -1,6 +1,9 @@
--- `tell`: what `console` shows stands at the room's front, and so long is it.
+-- `tell`: the answer line ends within the room.
+use Rattle.std.proofs.Common.{◌≤◌, length, arith}
 use Rattle.console.proofs.Laws.{front}
 use Rattle.list.proofs.tell.Goals as goal
 
-pub returns-in-Err-clause-prefix_len : goal.returns-in-Err-clause-prefix_len
-returns-in-Err-clause-prefix_len c = (front _ _ _ _ c.requires.wide c.refusal.ensures).counted
+pub shared_ref_as_front-result-in-Err : goal.shared_ref_as_front-result-in-Err
+shared_ref_as_front-result-in-Err c =
+    let wide : 512 ≤ length c.args.room.now = omega (arith, c.fits-room, c.told-room) in
+    omega (arith, (front _ _ _ _ wide c.refusal-length.ensures).counted.0, c.refusal-length.auto.room, c.fits-room, c.told-room)
