@@ -66,7 +66,7 @@ fn run_memory<'a>(memory: &mut [u16], room: &'a mut [u8; 512]) -> &'a [u8]
     };
     let start = Cpu { core, count: 0 };
     let (answer, end) = match interpreter::run(memory, &[], &mut log, start, 1000) {
-        Ok(ran) => (ran.stop.map_or(0, u32::from), ran),
+        Ok(ran) => (bus::number_of(ran.stop), ran),
         Err(refusal) => (
             u32::from(refusal),
             Ran {
