@@ -110,36 +110,48 @@ fn sync_out(rt: &HostRuntime) -> std::io::Result<()> {
     }
 }
 
-// Says on standard error which program's stream failed, and why: one line, the name and the stream within 64 bytes. What standard error doesn't take is lost.
-fn say_failed(rt: &HostRuntime, program: &[u8], stream: &[u8], error: Error) {
-    let mut what = [0u8; 64];
-    let at = text::put(&mut what, 0, program);
-    let end = text::put(&mut what, at, stream);
-    let reason = Reason { error };
-    let mut out = rt.stderr();
-    let _ = out.write_all(&what[..end]);
-    let _ = writeln!(out, ": {reason}");
+// A program as its streams know it: what it runs in, and the name that its errors are said with.
+#[derive(Clone, Copy)]
+pub struct Program<'a> {
+    pub rt: &'a HostRuntime,
+    pub name: &'a [u8],
 }
 
-// A program's input: `read_all` of standard input. A read that failed is said, and the bytes read before it are given.
-pub fn read_input(rt: &HostRuntime, program: &[u8], buffer: &mut [u8]) -> Result<usize, usize>
-    ensures counted { MatchResult result (λ n. IsPrefixLen n buffer.new) (λ n. IsPrefixLen n buffer.new) }
-    ensures kept { length buffer.new ≡ length buffer.old }
-{
-    let mut reader = rt.stdin();
-    read_all(&mut reader, buffer).map_err(|failed| {
-        say_failed(rt, program, b": standard input", failed.error);
-        failed.count
-    })
-}
+impl Program<'_> {
+    // Says on standard error that the program's stream failed, and why: one line, the name and the stream within 64 bytes. What standard error doesn't take is lost.
+    fn say_failed(&self, stream: &[u8], error: Error) {
+        let mut what = [0u8; 64];
+        let at = text::put(&mut what, 0, self.name);
+        let end = text::put(&mut what, at, stream);
+        let reason = Reason { error };
+        let mut out = self.rt.stderr();
+        let _ = out.write_all(&what[..end]);
+        let _ = writeln!(out, ": {reason}");
+    }
 
-// A program's output: `write_out`, with a failure said. Gives the status that the program ends with.
-pub fn print(rt: &HostRuntime, program: &[u8], text: &[u8]) -> ExitCode {
-    match write_out(rt, text) {
-        Ok(()) => ExitCode::SUCCESS,
-        Err(error) => {
-            say_failed(rt, program, b": standard output", error);
-            ExitCode::FAILURE
+    // Its input: `read_all` of standard input. A read that failed is said, and the bytes read before it are given.
+    pub fn read_input(&self, buffer: &mut [u8]) -> Result<usize, usize>
+        ensures counted { MatchResult result (λ n. IsPrefixLen n buffer.new) (λ n. IsPrefixLen n buffer.new) }
+        ensures kept { length buffer.new ≡ length buffer.old }
+    {
+        let mut reader = self.rt.stdin();
+        match read_all(&mut reader, buffer) {
+            Ok(count) => Ok(count),
+            Err(failed) => {
+                self.say_failed(b": standard input", failed.error);
+                Err(failed.count)
+            }
+        }
+    }
+
+    // Its output: `write_out`, with a failure said. Gives the status that the program ends with.
+    pub fn print(&self, text: &[u8]) -> ExitCode {
+        match write_out(self.rt, text) {
+            Ok(()) => ExitCode::SUCCESS,
+            Err(error) => {
+                self.say_failed(b": standard output", error);
+                ExitCode::FAILURE
+            }
         }
     }
 }

@@ -5,6 +5,7 @@ ghost use Rattle.std.specs.Prelude.{◌≡◌, ◌≤◌, IfOk, length as lib_le
 ghost use Rattle.list.specs.Listing.{words_of, with_words, told, printed};
 ghost use Rattle.lister.specs.Answers.{seen};
 
+use console::Program;
 use lister::Refusal;
 use std::process::ExitCode;
 use word::Line;
@@ -53,9 +54,13 @@ fn text<'a>(input: &[u8], room: &'a mut [u8; 2816]) -> &'a [u8]
 // A read that fails prints nothing.
 fn main(rt: HostRuntime) -> ExitCode {
     let mut input = [0u8; 257];
-    let Ok(n) = console::read_input(&rt, b"list", &mut input) else {
+    let program = Program {
+        rt: &rt,
+        name: b"list",
+    };
+    let Ok(n) = program.read_input(&mut input) else {
         return ExitCode::FAILURE;
     };
     let mut room = [0u8; 2816];
-    console::print(&rt, b"list", text(&input[..n], &mut room))
+    program.print(text(&input[..n], &mut room))
 }

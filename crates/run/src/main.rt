@@ -7,7 +7,7 @@ ghost use Rattle.run.specs.declared.Refusal.TheVariants.{Image};
 ghost use Rattle.run.specs.Refusals.{number};
 ghost use Rattle.run.specs.Report.{ran, admitted, printed};
 
-use console::Run;
+use console::{Program, Run};
 use instruction::{Core, Cpu};
 use interpreter::Ran;
 use std::process::ExitCode;
@@ -109,9 +109,13 @@ fn text<'a>(input: &[u8], room: &'a mut [u8; 512]) -> &'a [u8]
 // A read that fails runs nothing.
 fn main(rt: HostRuntime) -> ExitCode {
     let mut input = [0u8; image::LONGEST + 1];
-    let Ok(n) = console::read_input(&rt, b"run", &mut input) else {
+    let program = Program {
+        rt: &rt,
+        name: b"run",
+    };
+    let Ok(n) = program.read_input(&mut input) else {
         return ExitCode::FAILURE;
     };
     let mut room = [0u8; 512];
-    console::print(&rt, b"run", text(&input[..n], &mut room))
+    program.print(text(&input[..n], &mut room))
 }

@@ -2,7 +2,7 @@
 use Rattle.std.proofs.Common.{◌≤◌, length, sym, arith}
 use lib.Seq.{length-take-le}
 use Rattle.text.proofs.Laid.{laid_within}
-use Rattle.console.proofs.say_failed.Goals as goal
+use Rattle.console.proofs.Program.say_failed.Goals as goal
 
 pub slice_bounds-what-end : goal.slice_bounds-what-end
 slice_bounds-what-end c =
