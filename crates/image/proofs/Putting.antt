@@ -1,16 +1,18 @@
 -- Laws of an image put into a room: the bytes of the words from an address on, and the room that the whole image leaves.
-use Prim.Native.Nat.{ℕ, ◌+◌, ◌≤◌, ◌<◌}
-use mathlib.Core.Path.{◌≡◌}
+use Prim.Native.Nat.{ℕ, ◌+◌, ◌-◌, ◌≤◌, ◌<◌}
+use mathlib.Core.Path.{◌≡◌, refl, sym}
 use mathlib.Core.List.{List, [], ◌∷◌, ◌++◌}
 use native.Mathlib.Nat.{zero-add}
 use native.Mathlib.Numerals.{add-one}
 use native.Mathlib.Omega.{arith}
 use lib.ListN.{length, get_or, take, drop, drop_of_length-le}
-use lib.Seq.{drop-cons}
+use lib.Seq.{drop-cons, sets, sets-eq, take_all}
+use borrow.Rule.Slice.PartMut.{put_mid}
+use Rattle.std.proofs.lemmas.Slice.{put_mid-paste}
 use borrow.Author.Tests.{eq-eqb, ne_eqb, le-ltb}
-use mathlib.Core.Path.{ap}
-use Rattle.text.specs.Laid.{Wrote, laid}
-use Rattle.text.proofs.Laid.{all_of, wrote, same_text}
+use mathlib.Core.Path.{ap, ◌∙◌}
+use Rattle.text.specs.Laid.{Wrote}
+use Rattle.text.proofs.Laid.{all_of}
 use Rattle.image.specs.Records.{bytes, record_of, records_from}
 use Rattle.image.specs.Image.{image_of, filled, writing}
 use Rattle.image.proofs.Records.{bytes_append}
@@ -41,13 +43,15 @@ pub whole_put : (memory room left : List ℕ) (next count : ℕ) → length memo
 unfolding writing image_of
 whole_put memory room left next count words enough all w = rw (eq-eqb _ _ words, le-ltb _ _ enough) (filled_room memory enough (rw all at w))
 
--- The four bytes of a word's record, laid into a room that has them, are stored there.
-pub record_put : {room left four : List ℕ} {at next : ℕ} (address word : ℕ) → at + 4 ≤ length room → (word ≡ 0 → ⊥)
+-- The four bytes of a word's record, written to a part of the room, are stored there.
+pub record_put : (room four : List ℕ) (at address word : ℕ) → at + 4 ≤ length room → (word ≡ 0 → ⊥)
     → four ≡ bytes (record { address = record { 0 = address }; value = word } ∷ [])
-    → laid room at four ≡ record { room = left; next = next }
-    → Wrote room at (bytes (record_of address word)) left next
+    → Wrote room at (bytes (record_of address word)) (put_mid at (at + 4 - at) room four) (at + 4)
 unfolding bytes
-record_put {four = four} address word fits some e put =
+record_put room four at address word fits some e =
     let long : length four ≡ 4 = ap length e in
-    let done = wrote (omega (arith, long, fits)) put in
-    rw (ne_eqb word 0 some) (same_text e done)
+    let part = put_mid-paste at (at + 4 - at) room four four (length four) refl (omega arith) refl in
+    record {
+      stored = rw (ne_eqb word 0 some, part, take_all (length four) four (omega arith)) (sym (sets-eq four room at (omega arith)) ∙ ap (sets room at) e);
+      behind = rw (ne_eqb word 0 some);
+    }
