@@ -10,8 +10,7 @@ use lib.Dec.{eqb}
 use Rattle.turns.specs.Turns.{Turn, settled}
 use Rattle.bus.specs.declared.Stop.{Stop}
 use Rattle.bus.specs.Stops.{number}
-use Rattle.bus.specs.declared.Stop.TheVariants.{LogFull}
-use Rattle.bus.proofs.Laws.{result_only}
+use Rattle.bus.proofs.Laws.{result_only, stops_by}
 use Rattle.datapath.specs.declared.Half.{Half}
 use Rattle.datapath.specs.declared.Moving.{Moving}
 use Rattle.datapath.specs.declared.Half.TheVariants.{Nothing}
@@ -99,10 +98,10 @@ module _ (bits : ℕ) (m : Fields) (input : List ℕ) (s : State) {b : Beginning
         → cycle_on bits m input s
         ≡ record { next = record { line = s.line; registers = set b.registers b.fields.s b.stood; half = s.half; place = s.place; count = s.count; memory = memory; log = log }; stop = number stop; cost = cond (eqb (number stop) 0) 1 0 }
     unfolding settled transfer
-    refused LogFull m =
-        let e : left_in (moved before (Err LogFull) memory log) ≡ record { memory = s.memory; log = s.log; count = s.count; stop = 5 } =
-        rw m at (transfer_refused (eqb b.fields.rd 1) (eqb b.fields.wr 1) input s.half (found b.registers s) (ap (λ (x : Transfer). eqb x.stop 0) m)) in
-        rw (goes_on, m, put_back, ap (λ (x : Left). x.memory) e, ap (λ (x : Left). x.log) e)
+    refused stop m =
+        let e : left_in (moved before (Err stop) memory log) ≡ record { memory = s.memory; log = s.log; count = s.count; stop = number stop } =
+        rw m at (transfer_refused (eqb b.fields.rd 1) (eqb b.fields.wr 1) input s.half (found b.registers s) (ap (λ (x : Transfer). eqb x.stop 0) m ∙ stops_by stop)) in
+        rw (goes_on, m, stops_by stop, put_back, ap (λ (x : Left). x.memory) e, ap (λ (x : Left). x.log) e)
 
   -- Without RD and WR nothing is transferred, and RDM is what stands there.
   pub rests : (not (eqb b.fields.rd 1) && not (eqb b.fields.wr 1)) ≡ true

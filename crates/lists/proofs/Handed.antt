@@ -2,9 +2,13 @@
 use Prim.Native.Nat.{ℕ}
 use mathlib.Core.Path.{◌≡◌, refl}
 use mathlib.Core.List.{List, [], ◌∷◌}
-use Rattle.std.specs.Prelude.{Option, None, Some, Ok, Err}
+use mathlib.Core.Bool.{Bool, true, false, ◌&&◌}
+use native.Mathlib.Omega.{arith}
+use borrow.Author.Tests.{ltb-true}
+use lib.Dec.{ltb}
+use Rattle.std.specs.Prelude.{Option, Ok, Err}
 use Rattle.bus.specs.declared.Stop.{Stop}
-use Rattle.bus.specs.declared.Stop.TheVariants.{LogFull}
+use Rattle.bus.proofs.Laws.{number_apart}
 use Rattle.bus.specs.declared.Refusal.TheVariants.{WrongSize, PastEnd, OutOfRange}
 use Rattle.bus.specs.Stops.{number_of}
 use Rattle.engine.specs.declared.Machine.{Machine}
@@ -13,6 +17,18 @@ use Rattle.engine.specs.declared.Refusal.TheVariants.{Lent, BadWord}
 use Rattle.word.specs.Answer.{named}
 use Rattle.engine.specs.Run.{number, named_line, ended_by}
 use Rattle.lists.specs.Engine.{leaves, refuses, state_list}
+
+-- What stops a run is none of what refuses one.
+ran_on : (stop : Option Stop) → refuses (number_of stop) ≡ false
+unfolding refuses
+ran_on stop = go (ltb 0 (number_of stop)) (ltb (number_of stop) 5) refl refl
+  where
+    go : (a b : Bool) → ltb 0 (number_of stop) ≡ a → ltb (number_of stop) 5 ≡ b → (a && b) ≡ false
+    go false b p q = refl
+    go true false p q = refl
+    go true true p q =
+        let most = ltb-true (number_of stop) 5 q in
+        absurd (number_apart stop (number_of stop) (ltb-true 0 (number_of stop) p) (omega arith) refl)
 
 pub ran_leaves : (before machine : Machine) (done : ℕ) (stop : Option Stop) (memory log registers state : List ℕ)
     → leaves (ended_by before (Ok (record { machine = machine; done = done; stop = stop })) memory log) registers state
@@ -24,9 +40,8 @@ pub ran_leaves : (before machine : Machine) (done : ℕ) (stop : Option Stop) (m
       log = log;
       told = done ∷ 0 ∷ [];
     }
-unfolding leaves refuses
-ran_leaves before machine done None memory log registers state = refl
-ran_leaves before machine done (Some LogFull) memory log registers state = refl
+unfolding leaves
+ran_leaves before machine done stop memory log registers state = rw (ran_on stop) refl
 
 pub refused_leaves : (before : Machine) (refusal : Refusal) (memory log registers state : List ℕ)
     → leaves (ended_by before (Err refusal) memory log) registers state
