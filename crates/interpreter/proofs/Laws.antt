@@ -2,10 +2,12 @@
 use Prim.Native.Nat.{ℕ, ◌-◌, ◌≤◌}
 use mathlib.Core.Path.{◌≡◌, refl, sym, ◌∙◌, ap}
 use mathlib.Core.List.{List, [], ◌∷◌, ◌++◌}
+use mathlib.Core.Bool.{Bool, true, false, cond, not}
+use lib.Dec.{eqb}
 use native.Mathlib.Omega.{arith}
 use lib.ListN.{length, get_or, take, drop, length-append}
 use lib.Seq.{take_all}
-use borrow.Author.Tests.{ne_eqb}
+use borrow.Author.Tests.{ne_eqb, eqb-true}
 use Rattle.bus.specs.Ports.{Left}
 use Rattle.bus.specs.Log.{Sent, after, to_log, room, Took}
 use Rattle.bus.specs.Stops.{number_of}
@@ -30,6 +32,15 @@ number_below : (refused : Refusal) → (1 ≤ number refused) × (number refused
 number_below WrongSize = (omega arith, omega arith)
 number_below PastEnd = (omega arith, omega arith)
 number_below OutOfRange = (omega arith, omega arith)
+
+-- What answers 1 to 3 let through has a memory of 4,096 words.
+pub has_words : (input : List ℕ) (s : State) → refusal input s ≡ 0 → length s.memory ≡ 4096
+unfolding refusal
+has_words input s e = by (eqb (length s.memory) 4096) _ refl e
+  where
+    by : (b : Bool) (rest : ℕ) → eqb (length s.memory) 4096 ≡ b → cond (not b) 1 rest ≡ 0 → length s.memory ≡ 4096
+    by true rest t e = eqb-true (length s.memory) 4096 t
+    by false rest t e = let z : ⊥ = omega arith in absurd z
 
 -- What nothing refuses lets the instructions run; what is refused leaves all as found.
 module _ (input : List ℕ) (n : ℕ) (cpu : Cpu) (memory log : List ℕ) where

@@ -222,7 +222,9 @@ fn pass_below(memory: &mut [u16; 4096], from: Stage, n: u32) -> Stage
     requires spent { from.cycles ≤ 11 * from.done }
     ensures { Onward n from memory.old result memory.new }
 {
-    let mut core = from.core;
+    // Taken apart and put together: copied whole, its padding would take a processor register all through the loop.
+    let Core { cp, ac, pp, place } = from.core;
+    let mut core = Core { cp, ac, pp, place };
     let mut cycles = from.cycles;
     for done in from.done..n {
         let Some(passed) = carry_out_below(memory, core) else {
@@ -300,6 +302,10 @@ pub fn run(
 ) -> Result<Ran, Refusal>
     ensures { runs input.now n (state_of cpu memory.old log.old) ≡ ended_by cpu result memory.new log.new }
 {
+    if bus::is_wrong_memory(memory) {
+        return Err(Refusal::WrongSize);
+    }
+    // An array from here on; any other length was refused above.
     let memory: &mut [u16; 4096] = memory.as_mut_array().ok_or(Refusal::WrongSize)?;
     check(memory, input, log, cpu)?;
     Ok(carry_out_all(memory, input, log, cpu, n))
