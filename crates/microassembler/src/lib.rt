@@ -59,6 +59,6 @@ pub fn assemble(text: &[u8], store: &mut [u32]) -> Result<(), Refusal>
         at = read.next;
         k += 1;
     }
-    store.copy_from_slice(&made);
+    store::put_words(store, &made);
     Ok(())
 }

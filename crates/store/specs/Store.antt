@@ -19,6 +19,10 @@ control_word store line = get_or (words store) line 0
 abbrev pub with_word : List ℕ → ℕ → ℕ → List ℕ
 with_word store line word = set store line word
 
+-- The store with these control words; one of another size stays.
+abbrev pub with_words : List ℕ → List ℕ → List ℕ
+with_words store ws = cond (wrong_store store) store ws
+
 -- How many words stand before the first bad one, all of them where none is bad.
 abbrev pub good_before : List ℕ → ℕ
 good_before ws = position_or_len bad_word ws

@@ -1,10 +1,17 @@
-// The control store: the control word at a line, and the first bad line.
+// The control store: its control words, the one at a line, and the first bad line.
 #![tactic(auto)]
 
 ghost use Rattle.std.specs.Prelude.{◌≡◌};
-ghost use Rattle.store.specs.Store.{wrong_store, control_word, with_word, bad_line};
+ghost use Rattle.store.specs.Store.{wrong_store, words, control_word, with_word, with_words, bad_line};
 
 use word::Line;
+
+// Its control words, line after line.
+pub fn words(store: &[u32]) -> &[u32]
+    ensures { result.now ≡ words store.now }
+{
+    &store[..]
+}
 
 // The control word at a line; past the store's end it is 0.
 pub fn word_at(store: &[u32], line: Line) -> u32
@@ -21,6 +28,15 @@ pub fn put_word(store: &mut [u32], line: Line, word: u32)
     let k = usize::from(line);
     if k < store.len() {
         store[k] = word;
+    }
+}
+
+// Puts a control word at every line; a store of another size is left as found.
+pub fn put_words(store: &mut [u32], words: &[u32; 64])
+    ensures { store.new ≡ with_words store.old words.now }
+{
+    if !is_wrong(store) {
+        store.copy_from_slice(words);
     }
 }
 

@@ -49,4 +49,4 @@ returns c =
     let t = c.args.text.now in
     by_lines t c.args.store.now (sym c.is_wrong.ensures ∙ c.if-is_wrong.false) (Ok l.made) (omega arith)
     (sym l.invariant.3 ∙ filled_done t l.made l.k l.at c.loop-at-test.false)
-    ∙ ap (λ (ws : List ℕ). record { answer = 0; store = ws }) (sym c.copy_from_slice.ensures.after)
+    ∙ ap (λ (ws : List ℕ). record { answer = 0; store = ws }) (sym (rw (sym c.is_wrong.ensures ∙ c.if-is_wrong.false) at c.put_words.ensures))
