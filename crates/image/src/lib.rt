@@ -1,7 +1,7 @@
 // Memory images: records of an address and a value, read into a lent memory and written from one.
 #![tactic(auto)]
 
-ghost use Rattle.std.specs.Prelude.{◌≡◌, false, cond, eqb, ltb, ◌+◌, ◌≤◌, ◌*◌, [], ◌∷◌, length, map, replicate};
+ghost use Rattle.std.specs.Prelude.{◌≡◌, false, cond, eqb, ltb, ◌+◌, ◌≤◌, ◌*◌, ◌/◌, ◌%◌, [], ◌∷◌, length, map, replicate};
 ghost use Rattle.std.specs.Result.{result_unwrap_or};
 ghost use Rattle.image.specs.Refusals.{number};
 ghost use Rattle.word.specs.Answer.{answered};
@@ -54,16 +54,21 @@ struct Record {
     value: u16,
 }
 
-// High byte first. The four are one number, which the machine loads at once.
+// The four bytes of a record, high byte first, as one number, which the machine loads at once.
+fn number_of(four: [u8; 4]) -> u32
+    ensures { record { address = record { 0 = result / 65536 }; value = result % 65536 } ≡ record_in four }
+{
+    let [a, b, c, d] = four;
+    let value = word::from_bytes([c, d]);
+    u32::from(word::from_bytes([a, b])) * 65536 + u32::from(value)
+}
+
+// The record that four bytes are.
 impl From<[u8; 4]> for Record {
     ghost from_gives = { λ four r. r ≡ record_in four };
 
     fn from(four: [u8; 4]) -> Record {
-        let number = u32::from_be_bytes(four);
-        Record {
-            address: Address((number / 65536) as u16),
-            value: (number % 65536) as u16,
-        }
+        Record::of(number_of(four))
     }
 }
 
@@ -93,31 +98,50 @@ impl Record {
         Ok(())
     }
 
+    // The record that a number is.
+    fn of(number: u32) -> Record
+        ensures { result ≡ record { address = record { 0 = number / 65536 }; value = number % 65536 } }
+    {
+        Record {
+            address: Address((number / 65536) as u16),
+            value: (number % 65536) as u16,
+        }
+    }
+
+    // The number that it is.
+    fn number(self) -> u32
+        ensures { result ≡ self.address.0 * 65536 + self.value }
+    {
+        u32::from(self.address.0) * 65536 + u32::from(self.value)
+    }
+
     // Whether it has a value and the next one's address is above its own.
+    // The next one is compared whole: for a test of a part of it the compiler would load it in parts.
     fn goes_before(self, next: Record) -> bool
         ensures { result ≡ cond (eqb self.value 0) false (ltb self.address.0 next.address.0) }
     {
-        self.value != 0 && self.address < next.address
+        self.value != 0 && u32::from(self.address.0) * 65536 + 65535 < next.number()
     }
 }
 
 // The first fault of records in turn. While records follow, only the last one's address can be too high.
+// They go as numbers from turn to turn: a record would be two words, and be put together again for each comparison.
 fn examine(records: &[[u8; 4]]) -> Result<(), Refusal>
     ensures { answered number result ≡ first_fault 0 (map record_in records.now) }
 {
     let Some((first, rest)) = records.split_first() else {
         return Ok(());
     };
-    let mut last = Record::from(*first);
+    let mut last = number_of(*first);
     for &four in rest {
-        let next = Record::from(four);
-        if !last.goes_before(next) {
-            last.judge()?;
+        let next = number_of(four);
+        if !Record::of(last).goes_before(Record::of(next)) {
+            Record::of(last).judge()?;
             return Err(Refusal::AddressNotAbove);
         }
         last = next;
     }
-    last.judge()
+    Record::of(last).judge()
 }
 
 // Lays records that have no fault over a memory of zeros.

@@ -52,10 +52,9 @@ fn lines_length(words: &[u32]) -> usize
     requires { length words.now ≤ 64 }
     ensures { result ≡ length (lines 0 words.now) }
 {
-    let mut buffer = [0u8; LINE];
     let mut sum: usize = 0;
     for (i, &word) in words.iter().enumerate() {
-        sum += microline::put_line(&mut buffer, i as u32, word);
+        sum += microline::line_len(i as u32, word);
     }
     sum
 }
@@ -76,11 +75,11 @@ fn put_lines(room: &mut [u8], words: &[u32]) -> usize
 }
 
 // The words up to the last whose normal form is not 0.
-fn shown_words(store: &[u32]) -> &[u32]
-    ensures { result.now ≡ shown store.now }
+fn shown_words(words: &[u32]) -> &[u32]
+    ensures { result.now ≡ shown words.now }
 {
-    match store.iter().rposition(|&word| normal(word) != 0) {
-        Some(last) => &store[..=last],
+    match words.iter().rposition(|&word| normal(word) != 0) {
+        Some(last) => &words[..=last],
         None => &[],
     }
 }
@@ -99,7 +98,7 @@ pub fn list(store: &[u32], room: &mut [u8]) -> Result<usize, Refusal>
     if let Some(line) = store::first_bad(store) {
         return Err(Refusal::BadWord(Line(line as u8)));
     }
-    let words = shown_words(store);
+    let words = shown_words(store::words(store));
     if room.len() < lines_length(words) {
         return Err(Refusal::PastRoom);
     }

@@ -17,7 +17,7 @@ use Rattle.text.specs.Text.{bytes}
 use Rattle.text.specs.Laid.{Laid, Wrote}
 use Rattle.text.proofs.Laid.{wrote, laid_stored}
 use Rattle.text.specs.Decimal.{short_decimal}
-use Rattle.microline.specs.Line.{laid_line}
+use Rattle.microline.specs.Line.{line_length, laid_line}
 use Rattle.std.specs.Borrow.{Bor}
 use Rattle.microline.specs.Code.Pieces.{spelt}
 
@@ -201,6 +201,11 @@ pub wrote_line : {room left : List ℕ} {next : ℕ} (number word : ℕ) → 44 
 unfolding laid_line
 wrote_line number word wide below e =
     wrote (omega (arith, line_le number (fields_of word))) (rw (le-ltb _ _ wide, le-ltb _ _ below) at e)
+
+-- What a length's promise says of a line's number.
+pub length_of_line : {n : ℕ} (number word : ℕ) → number ≤ 63 → n ≡ line_length number word → n ≡ length (line number (fields_of word))
+unfolding line_length
+length_of_line number word below e = rw (le-ltb _ _ below) at e
 
 -- No second answer: the promise fixes the room and where the line ends.
 pub only : (room : List ℕ) (number word : ℕ) (left left' : List ℕ) (r r' : ℕ) → laid_line room number word ≡ record { room = left; next = r }

@@ -5,7 +5,7 @@ ghost use Rattle.std.specs.Prelude.{◌≡◌, [], ◌∷◌, ◌++◌, ◌+◌,
 ghost use Rattle.microtext.specs.Listing.{register_name, formula, destination, operation_part, transfer_part, jump_texts, jump_part};
 ghost use Rattle.text.specs.Laid.{Wrote};
 ghost use Rattle.text.specs.Decimal.{short_decimal};
-ghost use Rattle.microline.specs.Line.{laid_line};
+ghost use Rattle.microline.specs.Line.{line_length, laid_line};
 ghost use Rattle.microline.specs.Code.Pieces.{spelt};
 
 use microword::{Fields, fields_of, is_idle};
@@ -22,20 +22,35 @@ fn put_pieces(room: &mut [u8], pieces: &[&[u8]]) -> usize
     at
 }
 
+// How long pieces are together.
+fn pieces_len(pieces: &[&[u8]]) -> usize
+    requires { length (spelt pieces.now) ≤ 44 }
+    ensures { result ≡ length (spelt pieces.now) }
+{
+    let mut len: usize = 0;
+    for piece in pieces {
+        len += piece.len();
+    }
+    len
+}
+
+// A register's name, as a part of one text: of eight texts the compiler makes a table of addresses, for which the archive would have to be relocated.
 fn register<'a>(r: u32) -> &'a [u8]
     ensures { result.now ≡ register_name r }
 {
-    match r {
-        0 => b"cp",
-        1 => b"ac",
-        2 => b"pp",
-        3 => b"ri",
-        4 => b"rt",
-        5 => b"masc",
-        6 => b"rem",
-        7 => b"rdm",
-        _ => b"",
-    }
+    let names: &[u8] = b"cpacpprirtmascremrdm";
+    let (start, end) = match r {
+        0 => (0, 2),
+        1 => (2, 4),
+        2 => (4, 6),
+        3 => (6, 8),
+        4 => (8, 10),
+        5 => (10, 14),
+        6 => (14, 17),
+        7 => (17, 20),
+        _ => (0, 0),
+    };
+    &names[start..end]
 }
 
 // Where the operation stores; `alu` stores nothing.
@@ -70,6 +85,7 @@ fn formula<'a>(m: Fields) -> [&'a [u8]; 3]
 
 // The operation; none where nothing asks for its result.
 #[tactic(auto, unfolding(microtext::specs::Listing::operation))]
+#[inline(always)]
 fn operation<'a>(m: Fields) -> [&'a [u8]; 7]
     ensures { spelt result ≡ operation_part m }
 {
@@ -139,6 +155,8 @@ fn short(k: u32, digits: &[u8; 3]) -> &[u8]
 }
 
 // The pieces of a line, of its number with the colon and its jump's target with the semicolon.
+// Inline, with `operation`, at both calls: twelve slices handed back through memory took longer than the line itself.
+#[inline(always)]
 fn pieces<'a>(number: &'a [u8], m: Fields, target: &'a [u8]) -> [&'a [u8]; 12]
     requires { target.now ≡ short_decimal m.end ++ 59 ∷ [] }
     ensures { spelt result ≡ number.now ++ operation_part m ++ transfer_part m ++ jump_part m ++ 10 ∷ [] }
@@ -151,9 +169,26 @@ fn pieces<'a>(number: &'a [u8], m: Fields, target: &'a [u8]) -> [&'a [u8]; 12]
     ]
 }
 
+// How long a control word's line is; for a number that no line has it is 0.
+// Its pieces borrow two arrays made here, so that no function can hand them out, and `put_line` makes them again.
+#[tactic(auto, unfolding(crate::specs::Line::line_length))]
+pub fn line_len(number: u32, word: u32) -> usize
+    ensures { result ≡ line_length number word }
+{
+    if 63 < number {
+        return 0;
+    }
+    let m = fields_of(word);
+    let own = digits(number, b':');
+    let end = digits(m.end, b';');
+    pieces_len(&pieces(short(number, &own), m, short(m.end, &end)))
+}
+
 // A control word as a line, from the start of the room. A smaller room than a line may need, or a number that no line has, is left as found;
 // the answer is then 0 and no None, as `laid_line` says for every room, number and word.
+// Never inline: where the compiler knows the room it makes calls of memcpy of loops over a few bytes.
 #[tactic(auto, unfolding(crate::specs::Line::laid_line))]
+#[inline(never)]
 pub fn put_line(room: &mut [u8], number: u32, word: u32) -> usize
     ensures { laid_line room.old number word ≡ record { room = room.new; next = result } }
 {

@@ -2,20 +2,23 @@
 -- one byte, or two that are one token.
 use Prim.Native.Nat.{ℕ, ◌+◌, ◌≤◌, ◌<◌}
 use Prim.Native.Char.{code}
-use mathlib.Core.Path.{◌≡◌, refl, sym, ap, subst, ◌∙◌}
-use mathlib.Core.Bool.{Bool, true, false, not, cond, ◌&&◌, ◌||◌, and-true, and-false, and_assoc, or-false, not-not, true≢false}
+use mathlib.Core.Path.{◌≡◌, refl, sym, ap, ap₂, subst, ◌∙◌}
+use mathlib.Core.Bool.{Bool, true, false, cond, ◌&&◌, ◌||◌, and-true, and-false, and_assoc, or-false, true≢false}
 use mathlib.Core.List.{List, [], ◌∷◌, ◌++◌}
 use native.Mathlib.Omega.{arith}
-use borrow.Author.Tests.{leb-true, ne_eqb, eq-eqb, lt-leb, ltb-false, eqb-true, eqb-false}
-use lib.Dec.{leb, ltb, eqb}
-use lib.ListN.{length, get_or, length-append}
-use Rattle.std.specs.Prelude.{suc, Option, Some, None, unwrap_or}
-use Rattle.std.specs.List.{prefix_len, position_or_len, starts_with, slice_get}
+use borrow.Author.Tests.{leb-true, ne_eqb, eq-eqb, lt-leb, eqb-true, eqb-false}
+use native.Mathlib.Numerals.{add-one}
+use lib.Dec.{leb, eqb}
+use lib.ListN.{length, get_or, take, drop, length-append, drop_of_length-le}
+use lib.Seq.{drop-cons, take-suc}
+use Rattle.std.specs.Prelude.{suc, Some, None}
+use Rattle.std.specs.List.{prefix_len, starts_with, slice_get}
 use Rattle.word.proofs.Tests.{both}
 use Rattle.text.specs.Text.{bytes, same, before}
 use Rattle.text.specs.Decimal.{digit}
 use Rattle.token.specs.Tokens.{letter, every, one_token, under, ended, going, tokens_after, started_by}
-use Rattle.token.specs.Code.Next.{first, token_len}
+use Rattle.token.specs.Code.Next.{grown, packed_after, packed, told, first, token_len}
+use Rattle.token.specs.declared.Token.{Token as Packed}
 use Rattle.token.proofs.Split.{tokens_first}
 
 swapped : (a b : ℕ) → eqb a b ≡ eqb b a
@@ -137,33 +140,47 @@ module _ (c : ℕ) (letters : letter c ≡ false) (digits : digit c ≡ false) w
       go true e = sym (two_bytes d s e)
       go false e = sym (one_byte (d ∷ s) (λ x r z. ap (λ (y : ℕ). one_token (c ∷ y ∷ [])) (sym (ap (λ (u : List ℕ). get_or u 0 0) z)) ∙ e))
 
--- The length as `position` finds the first byte that is not of the class.
-pub stops : (p : ℕ → Bool) (s : List ℕ) (stop : Option ℕ)
-    → stop ≡ cond (ltb (position_or_len (λ c. not (p c)) s) (length s)) (Some (position_or_len (λ c. not (p c)) s)) None
-    → unwrap_or stop (length s) ≡ prefix_len p s
-stops p s stop e = rw e (go (ltb (prefix_len (λ c. not (not (p c))) s) (length s)) refl) ∙ same_len s
-  where
-    same_len : (s : List ℕ) → prefix_len (λ c. not (not (p c))) s ≡ prefix_len p s
-    same_len [] = refl
-    same_len (c ∷ s) = rw (not-not (p c), same_len s) refl
+-- A run byte by byte: one byte more of it, a byte that ends it, and the text's end.
+pub packed_more : (n : ℕ) (t : List ℕ) (c : ℕ) → packed_after n (t ++ c ∷ []) ≡ grown (packed_after n t) c
+packed_more n [] c = refl
+packed_more n (x ∷ t) c = packed_more (grown n x) t c
 
-    within : (s : List ℕ) → prefix_len (λ c. not (not (p c))) s ≤ length s
-    within [] = omega arith
-    within (c ∷ s) = one (not (not (p c))) (within s)
-      where
-        one : (b : Bool) → prefix_len (λ c. not (not (p c))) s ≤ length s → cond b (1 + prefix_len (λ c. not (not (p c))) s) 0 ≤ suc (length s)
-        one true h = omega arith
-        one false h = omega arith
+pub record SoFar (kind : ℕ → Bool) (rest : List ℕ) (n token : ℕ) : Type 0 where
+  pub long : prefix_len kind rest ≡ n + prefix_len kind (drop n rest)
+  pub read : token ≡ packed (take n rest)
 
-    go : (b : Bool) → ltb (prefix_len (λ c. not (not (p c))) s) (length s) ≡ b
-        → unwrap_or (cond b (Some (prefix_len (λ c. not (not (p c))) s)) None) (length s) ≡ prefix_len (λ c. not (not (p c))) s
-    go true e = refl
-    go false e = let h = ltb-false (prefix_len (λ c. not (not (p c))) s) (length s) e in let w = within s in omega arith
+module _ (kind : ℕ → Bool) (rest : List ℕ) (n token : ℕ) (so_far : SoFar kind rest n token) where
+  pub run_more : n < length rest → kind (get_or rest n 0) ≡ true → SoFar kind rest (n + 1) (grown token (get_or rest n 0))
+  run_more h e =
+      let d : prefix_len kind (drop n rest) ≡ 1 + prefix_len kind (drop (suc n) rest) = rw (drop-cons rest n 0 h, e) refl in
+      rw add-one
+      (record {
+        long = so_far.long ∙ omega (arith, d);
+        read = rw (so_far.read, take-suc rest n 0 h) (sym (packed_more 1 (take n rest) (get_or rest n 0)));
+      })
+
+  pub run_stops : n < length rest → kind (get_or rest n 0) ≡ false → (n ≡ prefix_len kind rest) × (token ≡ packed (take (prefix_len kind rest) rest))
+  run_stops h e =
+      let d : prefix_len kind (drop n rest) ≡ 0 = rw (drop-cons rest n 0 h, e) refl in
+      let m : prefix_len kind rest ≡ n = omega (arith, so_far.long, d) in
+      rw m (refl, so_far.read)
+
+  pub run_over : n ≡ length rest → (length rest ≡ prefix_len kind rest) × (token ≡ packed (take (prefix_len kind rest) rest))
+  run_over h =
+      let all : length rest ≤ n = omega arith in
+      let d : prefix_len kind (drop n rest) ≡ 0 = rw (drop_of_length-le rest all) refl in
+      let m : prefix_len kind rest ≡ n = omega (arith, so_far.long, d) in
+      rw m (sym h, so_far.read)
 
 -- What stands first in a text.
 begins : (rest : List ℕ) (c : ℕ) → Some c ≡ slice_get rest 0 → (s : List ℕ) × (rest ≡ c ∷ s)
 begins [] c e = let o : ◌≡◌ {A = ℕ} 0 1 = cc in absurd (omega arith)
 begins (x ∷ s) c e = let v : x ≡ c = cc in (s, ap (λ (y : ℕ). y ∷ s) v)
+
+some_told : (t : List ℕ) (token : Packed) → (length t ≡ 0 → ⊥) → token.0 ≡ packed t → Some token ≡ told t
+unfolding told
+some_told [] token some e = absurd (some refl)
+some_told (x ∷ t) token some e = ap (λ (n : ℕ). Some (record { 0 = n })) e
 
 -- The length by what stands first: nothing, the byte 10, a byte of a class, a sign.
 pub nothing_long : (rest : List ℕ) → None ≡ slice_get rest 0 → 0 ≡ token_len rest
@@ -182,11 +199,18 @@ module _ (rest : List ℕ) (c : ℕ) (e : Some c ≡ slice_get rest 0) where
   pub end_long : c ≡ 10 → 0 ≡ token_len rest
   end_long z = end b.0 ∙ ap (λ (x : ℕ). token_len (x ∷ b.0)) (sym z) ∙ ap token_len (sym b.1)
 
-  pub run_long : (p : ℕ → Bool) → Class p → (stop : Option ℕ) (n : ℕ) → p c ≡ true
-      → stop ≡ cond (ltb (position_or_len (λ x. not (p x)) rest) (length rest)) (Some (position_or_len (λ x. not (p x)) rest)) None
-      → n ≡ unwrap_or stop (length rest) → n ≡ token_len rest
-  run_long p of-class stop n h q r =
-      r ∙ stops p rest stop q ∙ ap (prefix_len p) b.1 ∙ run_len p of-class c b.0 h ∙ ap token_len (sym b.1)
+  pub run_long : (p : ℕ → Bool) → Class p → p c ≡ true → prefix_len p rest ≡ token_len rest
+  run_long p of-class h = ap (prefix_len p) b.1 ∙ run_len p of-class c b.0 h ∙ ap token_len (sym b.1)
+
+  -- And the token is the run's.
+  pub run_told : (p : ℕ → Bool) → Class p → p c ≡ true → (n : ℕ) (token : Packed) → (n ≡ prefix_len p rest) × (token.0 ≡ packed (take (prefix_len p rest) rest))
+      → (n ≡ token_len rest) × (Some token ≡ told (take (token_len rest) rest))
+  run_told p of-class h n token r =
+      let long : prefix_len p rest ≡ token_len rest = run_long p of-class h in
+      let one : prefix_len p rest ≡ 1 + prefix_len p b.0 = ap (prefix_len p) b.1 ∙ rw h refl in
+      let more : prefix_len p rest ≡ suc (prefix_len p b.0) = omega (arith, one) in
+      let bytes : take (prefix_len p rest) rest ≡ c ∷ take (prefix_len p b.0) b.0 = ap₂ (λ (k : ℕ) (s : List ℕ). take k s) more b.1 in
+      (r.0 ∙ long, some_told _ token (λ z. omega (arith, z, ap length bytes)) r.1 ∙ ap (λ (k : ℕ). told (take k rest)) long)
 
   pub sign_long : letter c ≡ false → digit c ≡ false → (c ≡ 10 → ⊥) → (0 < length rest → get_or rest 0 0 ≡ code " " → ⊥) → (t : Bool)
       → t ≡ (starts_with eqb rest (bytes ":=") || starts_with eqb rest (bytes "<<") || starts_with eqb rest (bytes ">>")) → ◌≡◌ {A = ℕ} (cond t 2 1) (token_len rest)

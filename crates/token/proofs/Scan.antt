@@ -70,11 +70,12 @@ pub len_within : (rest : List ℕ) → token_len rest ≤ length rest
 len_within rest = omega (arith, (split (before 10 rest)).within, line_within rest)
 
 pub scanned_here : (text rest : List ℕ) (at n : ℕ) (token : Option Packed) → start_at text at ≡ at → rest ≡ slice_range text at (length text) → n ≡ token_len rest
-    → token ≡ told (take n rest) → record { token = token; behind = at + length (take n rest) } ≡ scanned text at
+    → token ≡ told (take (token_len rest) rest) → record { token = token; behind = at + n } ≡ scanned text at
 unfolding scanned
 scanned_here text rest at n token z r e t =
     let k : spaces (line_at text at) ≡ 0 = omega arith in
     let d : rest ≡ drop at text = r ∙ take_all (length text - at) (drop at text) (rw length-drop (omega arith)) in
-    let w : take n rest ≡ first (tokens (line_at text at)) =
-    ap (λ (m : ℕ). take m rest) e ∙ spelled rest (ap (λ (u : List ℕ). spaces (before 10 u)) d ∙ k) ∙ ap (λ (u : List ℕ). first (tokens (before 10 u))) d in
+    let w : take (token_len rest) rest ≡ first (tokens (line_at text at)) =
+    spelled rest (ap (λ (u : List ℕ). spaces (before 10 u)) d ∙ k) ∙ ap (λ (u : List ℕ). first (tokens (before 10 u))) d in
+    let long : n ≡ length (first (tokens (line_at text at))) = e ∙ ap token_len d in
     rw (t, w) (ap (λ (m : ℕ). record { token = told (first (tokens (line_at text at))); behind = m }) (omega arith))

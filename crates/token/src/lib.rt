@@ -1,8 +1,9 @@
 // Tokens: the next one of a line of micro text, if there is one, with what is behind its bytes.
 #![tactic(auto)]
 
-ghost use Rattle.std.specs.Prelude.{◌≡◌, ◌<◌, length, get_or};
-ghost use Rattle.token.specs.Code.Next.{grown as grown_by, told, start_at, scanned, token_len};
+ghost use Rattle.std.specs.Prelude.{◌≡◌, ◌<◌, ℕ, Bool, length, get_or, take};
+ghost use Rattle.std.specs.List.{prefix_len};
+ghost use Rattle.token.specs.Code.Next.{grown as grown_by, packed, told, start_at, scanned, token_len};
 ghost use Rattle.token.specs.Code.Numbers.{decimal_of};
 
 // A token: its bytes behind a 1, as the digits of one number to the base 256. The fifth byte is the last that counts.
@@ -113,36 +114,53 @@ pub fn start(text: &[u8], at: usize) -> usize
     at.max(text.len())
 }
 
-// How many bytes the token has that begins `rest`: a run of letters, a run of digits, or a sign. A line's end begins none.
-fn token_len(rest: &[u8]) -> usize
+// The run of bytes of one kind that begins `rest`: its token, and how many bytes it has.
+// One pass, and not `position` and then a fold: nearly all tokens have one to three bytes, and two passes took half as long again.
+fn run<F: Fn(u8) -> bool>(rest: &[u8], belongs: F) -> (Token, usize)
+    requires { F.IsAlwaysCallable belongs }
+    ensures { (kind : ℕ → Bool) → ((c : ℕ) (b : Bool) → F.post belongs c b → b ≡ kind c) → (result.1 ≡ prefix_len kind rest.now) × (result.0.0 ≡ packed (take (prefix_len kind rest.now) rest.now)) }
+{
+    let mut token = Token(1);
+    for n in 0..rest.len() {
+        let c = rest[n];
+        if !belongs(c) {
+            return (token, n);
+        }
+        token = token.grown(c);
+    }
+    (token, rest.len())
+}
+
+// The token that begins `rest`, and how many bytes it has: a run of letters, a run of digits, or a sign. A line's end begins none.
+// Always inline, as `next_token` is.
+#[inline(always)]
+fn first_token(rest: &[u8]) -> (Option<Token>, usize)
     requires { 0 < length rest.now → get_or rest.now 0 0 ≡ 32 → ⊥ }
-    ensures { result ≡ token_len rest.now }
+    ensures { (result.1 ≡ token_len rest.now) × (result.0 ≡ told (take (token_len rest.now) rest.now)) }
 {
     let Some(c) = rest.first().copied() else {
-        return 0;
+        return (None, 0);
     };
     if c == b'\n' {
-        return 0;
+        return (None, 0);
     }
     if c.is_ascii_lowercase() {
-        return rest
-            .iter()
-            .position(|c| !c.is_ascii_lowercase())
-            .unwrap_or(rest.len());
+        let (token, n) = run(rest, |c| c.is_ascii_lowercase());
+        return (Some(token), n);
     }
     if c.is_ascii_digit() {
-        return rest
-            .iter()
-            .position(|c| !c.is_ascii_digit())
-            .unwrap_or(rest.len());
+        let (token, n) = run(rest, |c| c.is_ascii_digit());
+        return (Some(token), n);
     }
     if rest.starts_with(b":=") || rest.starts_with(b"<<") || rest.starts_with(b">>") {
-        return 2;
+        return (Token::of(&rest[..2]), 2);
     }
-    1
+    (Token::of(&rest[..1]), 1)
 }
 
 // The next token of the line that goes on at `at`. Text and place stay two parameters: `scanned` says places in the whole text.
+// Always inline: what it answers is three words, which would go by way of memory at each token.
+#[inline(always)]
 pub fn next_token(text: &[u8], at: usize) -> Scanned
     ensures { result ≡ scanned text.now at }
 {
@@ -153,10 +171,10 @@ pub fn next_token(text: &[u8], at: usize) -> Scanned
             behind: i,
         };
     };
-    let token = &rest[..token_len(rest)];
+    let (token, n) = first_token(rest);
     Scanned {
-        token: Token::of(token),
-        behind: i + token.len(),
+        token,
+        behind: i + n,
     }
 }
 
