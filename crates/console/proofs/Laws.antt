@@ -8,8 +8,8 @@ use lib.Dec.{ltb}
 use native.Mathlib.Numerals.{add-one}
 use native.Mathlib.Omega.{arith}
 use borrow.Author.Tests.{lt-ltb, le-ltb, ltb-true, ltb-false}
-use lib.ListN.{length, get_or, take, drop, length-append}
-use lib.Seq.{take-suc, take-append_seam}
+use lib.ListN.{length, get_or, take, drop, length-append, drop_of_length-le}
+use lib.Seq.{drop-cons, take-suc, take-append_seam}
 use Rattle.io.specs.Counts.{IsPrefixLen}
 use Rattle.io.specs.Digits.{last_digits as digits_of_io, IsDigitCount}
 use Rattle.text.specs.Decimal.{digits, decimal}
@@ -46,6 +46,16 @@ fewest (suc k) n wide f =
     let e : suc k - 1 ≡ k = omega arith in
     spelt k 20 n (short (suc k) n wide f) f.1 (λ p. rw e at (f.2 (omega arith)))
 
+-- The lines from a word on.
+pub lines_next : (words : List ℕ) (i : ℕ) → i < length words
+    → lines (drop i words) ≡ lines (get_or words i 0 ∷ []) ++ lines (drop (i + 1) words)
+unfolding lines
+lines_next words i h = rw (add-one, drop-cons words i 0 h) (sym (append_assoc (signed (get_or words i 0)) (10 ∷ []) (lines (drop (suc i) words))))
+
+pub lines_end : (words : List ℕ) (i : ℕ) → length words ≤ i → lines (drop i words) ≡ []
+unfolding lines
+lines_end words i h = rw (drop_of_length-le words h)
+
 -- The lines up to a word, and the word's.
 lines_append : (words more : List ℕ) → lines (words ++ more) ≡ lines words ++ lines more
 unfolding lines
@@ -55,6 +65,11 @@ lines_append (word ∷ words) more = rw (lines_append words more) (sym (append_a
 pub lines_more : (words : List ℕ) (i : ℕ) → i < length words → lines (take i words) ++ (signed (get_or words i 0) ++ 10 ∷ []) ≡ lines (take (i + 1) words)
 unfolding lines
 lines_more words i h = rw (add-one, take-suc words i 0 h) (sym (lines_append (take i words) (get_or words i 0 ∷ [])))
+
+-- A room below 512 bytes is as found.
+pub not_shown : (text room : List ℕ) → length room < 512 → shown text room ≡ record { length = 0; room = room }
+unfolding shown
+not_shown text room small = rw (lt-ltb _ _ small)
 
 -- A text stands at the front of a room, and so long is it.
 pub record Front (text left : List ℕ) (r : ℕ) : Type 0 where

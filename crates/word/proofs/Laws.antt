@@ -4,7 +4,7 @@ use Rattle.std.proofs.Common.{◌≡◌, ℕ, zero, suc, ◌+◌, ◌-◌, ◌*�
 use native.Mathlib.Nat.{mod-mod, mod-add-mod, add-mod_right, add-mul-mod_self_right, mul-mod_left}
 use lib.Bits.{bit_or, or_shifted}
 use lib.Arith.{digits_lt}
-use lib.Pow.{pow-lt, mod-pow-add, shl-shr, shr_le, high, low, split}
+use lib.Pow.{pow-lt, mod-pow-add, mod-mod-pow, shl-shr, shr_le, high, low, split}
 use Rattle.word.specs.Number.{Field, field, placed, kept, joined, total, widths, sum, difference, bytes_of, word_of}
 
 -- No second answer: a promise `r ≡ d` fixes r.
@@ -21,6 +21,10 @@ kept_whole width h = mod-eq_of_lt h
 -- A number of `bits` bits is kept whole by as many or more.
 pub kept_wide : {bits width number : ℕ} → bits ≤ width → number < 2 ^ bits → kept width number ≡ number
 kept_wide {bits} {width} {number} l h = kept_whole width (omega (arith, pow_mono l))
+
+-- The fewer bits decide.
+pub kept_fewer : (more width number : ℕ) → kept width (kept (more + width) number) ≡ kept width number
+kept_fewer more width number = mod-mod-pow number more width
 
 -- 1 moved up by k places, in a number of w bits.
 pub one_up : {k w : ℕ} → k < w → (1 * 2 ^ k) % 2 ^ w ≡ 2 ^ k
